@@ -1,0 +1,118 @@
+// Numbers in two bytes, copies and zeros in lent slices, and bools joined.
+ghost use mathlib.Core.Path.{_≡_};
+ghost use mathlib.Core.List.{_++_};
+ghost use mathlib.Core.Bool.{_&&_, _||_};
+ghost use Prim.Native.Nat.{_+_, _<_, _≤_, min, max};
+ghost use lib.ListN.{length, drop};
+ghost use Rattle.rules.specs.Basic.{low-at, high-at, zeros};
+ghost use Rattle.primitives.specs.Bytes.{over, all-zero};
+
+// The number in two bytes, least significant first.
+pub fn low_at(s: &[u8], at: usize) -> u16
+    requires { ⌜ at + 1 < length (now s) ⌝ }
+    ensures { λ r. ⌜ r ≡ low-at at (now (s .entry)) ⌝ }
+{
+    let low = s[at] as u16;
+    let high = s[at + 1] as u16;
+    low + 256 * high
+}
+
+// The number in two bytes, most significant first.
+pub fn high_at(s: &[u8], at: usize) -> u16
+    requires { ⌜ at + 1 < length (now s) ⌝ }
+    ensures { λ r. ⌜ r ≡ high-at at (now (s .entry)) ⌝ }
+{
+    let high = s[at] as u16;
+    let low = s[at + 1] as u16;
+    256 * high + low
+}
+
+pub fn larger(a: usize, b: usize) -> usize
+    ensures { λ r. ⌜ r ≡ max a b ⌝ }
+{
+    if a < b {
+        return b;
+    }
+    a
+}
+
+pub fn smaller(a: usize, b: usize) -> usize
+    ensures { λ r. ⌜ r ≡ min a b ⌝ }
+{
+    if a < b {
+        return a;
+    }
+    b
+}
+
+// Copies all of src to the front of dst.
+fn copy_in(dst: &mut [u8], src: &[u8])
+    requires { ⌜ length (now src) ≤ length (now dst) ⌝ }
+    ensures { λ _. ⌜ now (dst .exit) ≡ now (src .entry) ++ drop (length (now (src .entry))) (now (dst .entry)) ⌝ }
+{
+    let mut i = 0;
+    while i < src.len() {
+        dst[i] = src[i];
+        i += 1;
+    }
+}
+
+// Puts src at a place of dst: that part is lent on.
+pub fn put(dst: &mut [u8], at: usize, src: &[u8])
+    requires { ⌜ at + length (now src) ≤ length (now dst) ⌝ }
+    ensures { λ _. ⌜ now (dst .exit) ≡ over at (now (src .entry)) (now (dst .entry)) ⌝ }
+{
+    let e = at + src.len();
+    copy_in(&mut dst[at..e], src);
+}
+
+// Zeros all of dst.
+pub fn clear(dst: &mut [u8])
+    ensures { λ _. ⌜ now (dst .exit) ≡ zeros (length (now (dst .entry))) ⌝ }
+{
+    let mut i = 0;
+    while i < dst.len() {
+        dst[i] = 0;
+        i += 1;
+    }
+}
+
+// Puts n zeros at a place of dst: that part is lent on.
+pub fn put_zeros(dst: &mut [u8], at: usize, n: usize)
+    requires { ⌜ at + n ≤ length (now dst) ⌝ }
+    ensures { λ _. ⌜ now (dst .exit) ≡ over at (zeros n) (now (dst .entry)) ⌝ }
+{
+    let e = at + n;
+    clear(&mut dst[at..e]);
+}
+
+pub fn both(a: bool, b: bool) -> bool
+    ensures { λ r. ⌜ r ≡ (a && b) ⌝ }
+{
+    if a {
+        return b;
+    }
+    false
+}
+
+pub fn either(a: bool, b: bool) -> bool
+    ensures { λ r. ⌜ r ≡ (a || b) ⌝ }
+{
+    if a {
+        return true;
+    }
+    b
+}
+
+// No early return, so that the loop is vectorised.
+pub fn all_zero(s: &[u8]) -> bool
+    ensures { λ r. ⌜ r ≡ all-zero (now (s .entry)) ⌝ }
+{
+    let mut zero = true;
+    let mut i = 0;
+    while i < s.len() {
+        zero = both(zero, s[i] == 0);
+        i += 1;
+    }
+    zero
+}

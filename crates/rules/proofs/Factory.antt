@@ -1,0 +1,30 @@
+-- The factory store is sound, and 6,024 bytes long.
+use Prim.Native.Nat.{ℕ}
+use mathlib.Core.Bool.{Bool, true}
+use mathlib.Core.List.{List}
+use mathlib.Core.Option.{Option, some}
+use mathlib.Core.Path.{_≡_, refl, _∙_}
+use lib.ListN.{length}
+use Rattle.rules.specs.Basic.{all, among, rising, rising-from}
+use Rattle.rules.specs.Expression.{is-state, condition-allowed, group-allowed, groups-allowed, group-size, conditions, groups, expression-allowed}
+use Rattle.rules.specs.Object.{in-session, object-allowed, all-allowed}
+use Rattle.rules.specs.Layout.{size, objects-allowed, pack, unpack}
+use Rattle.rules.specs.Factory.{entry, table, before-operational, made, factory-objects, factory-store}
+use Rattle.rules.proofs.Inverse.{unpack-pack}
+use Rattle.rules.proofs.Places.{pack-length}
+use Rattle.rules.proofs.Keeps.{each-allowed}
+
+pub factory-allowed : objects-allowed factory-objects ≡ true
+unfolding all among rising rising-from is-state condition-allowed group-allowed groups-allowed group-size conditions groups expression-allowed in-session object-allowed all-allowed size objects-allowed entry table before-operational made factory-objects
+factory-allowed = refl
+
+pub factory-sound : unpack factory-store ≡ some factory-objects
+unfolding factory-store
+factory-sound = unpack-pack factory-objects factory-allowed
+
+pub factory-length : length factory-store ≡ 6024
+unfolding factory-store
+factory-length = pack-length factory-objects (each-allowed factory-objects factory-allowed) ∙ total
+  where
+    total : size factory-objects ≡ 6024
+    total = unfold size entry table made factory-objects in refl

@@ -1,0 +1,15 @@
+pub mod Tests
+pub mod Expressions
+pub mod Inverse
+pub mod Places
+pub mod Metadata
+pub mod Verdicts
+pub mod Keeps
+pub mod Demand1
+pub mod Rows
+pub mod Demand2
+pub mod Puts
+pub mod Demand3
+pub mod SendBack
+pub mod Factory
+pub mod Bench

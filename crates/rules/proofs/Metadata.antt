@@ -1,0 +1,73 @@
+-- An object's metadata, read back without C4 and C5, is allowed content and changes nothing in the object.
+use Prim.Native.Nat.{ℕ, zero, suc, _+_, _≤_, _<_}
+use mathlib.Core.Bool.{Bool, true, false, not, _&&_}
+use mathlib.Core.List.{List, [], _∷_, _++_, append-nil}
+use mathlib.Core.Option.{Option, none, some}
+use mathlib.Core.Path.{_≡_, refl, sym, ap, _∙_}
+use native.Mathlib.Nat.{not-suc-le-zero, le-of-suc-le-suc, le-refl}
+use native.Mathlib.Omega.{arith}
+use borrow.Author.Tests.{le-leb}
+use lib.Dec.{eqb, ltb, leb}
+use lib.ListN.{length, getD, take, drop}
+use lib.Seq.{take-append-seam, drop-append-seam}
+use Rattle.rules.specs.Basic.{if_then_else_, all, among, same, rising, rising-from, is-none, or-else}
+use Rattle.rules.specs.Expression.{Expression, expression, expression-bytes, expression-allowed, is-state, may-become}
+use Rattle.rules.specs.Object.{Object, used, object-allowed}
+use Rattle.rules.specs.Metadata.{Field, field, fields-bytes, led-by-20, read-fields, sent-fields, field-allowed, fields-allowed, metadata-allowed}
+use Rattle.rules.specs.Metadata.{object-fields, value-of, sent-state, sent-expression, with-fields}
+use Rattle.rules.specs.Demand.{without-sizes}
+use Rattle.rules.proofs.Tests.{at-place, same-refl}
+use Rattle.rules.proofs.Expressions.{expression-back}
+
+-- fields are read back from their bytes
+pub fields-read : (n : ℕ) (fs : List Field) → length fs ≤ n → read-fields n (fields-bytes fs) ≡ fs
+unfolding read-fields fields-bytes field
+fields-read zero [] l = refl
+fields-read (suc n) [] l = refl
+fields-read zero (f ∷ fs) l = absurd (not-suc-le-zero l)
+fields-read (suc n) (f ∷ fs) l =
+    rw (take-append-seam (f .value) (fields-bytes fs), drop-append-seam (f .value) (fields-bytes fs), fields-read n fs (le-of-suc-le-suc l))
+
+-- the fields of what is read back, without C4 and C5
+unfoldable pub own-fields : Object → List Field
+own-fields o =
+    field 0xC0 (o .lcso ∷ []) ∷ field 0xD0 (expression-bytes (o .change)) ∷ field 0xD1 (expression-bytes (o .read)) ∷
+    field 0xD3 (expression-bytes (o .execute)) ∷ []
+
+pub own-read-back : (o : Object) → without-sizes (object-fields o) ≡ own-fields o
+unfolding without-sizes object-fields own-fields field among
+own-read-back o = refl
+
+pub own-sent : (o : Object) → sent-fields (led-by-20 (fields-bytes (own-fields o))) ≡ own-fields o
+unfolding sent-fields led-by-20
+own-sent o = fields-read 4 (own-fields o) (unfold own-fields in omega arith)
+
+-- the object's own expressions and state are allowed
+record Own (o : Object) : Type 0 where
+  state : is-state (o .lcso) ≡ true
+  change : expression (expression-bytes (o .change)) ≡ some (o .change)
+  read : expression (expression-bytes (o .read)) ≡ some (o .read)
+  execute : expression (expression-bytes (o .execute)) ≡ some (o .execute)
+
+own : (o : Object) → object-allowed o ≡ true → Own o
+unfolding object-allowed
+own o h =
+    record {
+      state = at-place _ h 5;
+      change = expression-back (o .change) (at-place _ h 6);
+      read = expression-back (o .read) (at-place _ h 7);
+      execute = expression-back (o .execute) (at-place _ h 8);
+    }
+
+own-fields-allowed : (o : Object) → Own o → fields-allowed (o .lcso) (own-fields o) ≡ true
+unfolding fields-allowed own-fields field-allowed field may-become among
+own-fields-allowed o w = rw (w .state, le-leb (o .lcso) (o .lcso) (omega arith), w .change, w .read, w .execute)
+
+pub own-allowed : (o : Object) → object-allowed o ≡ true → metadata-allowed (o .lcso) (led-by-20 (fields-bytes (own-fields o))) ≡ true
+unfolding metadata-allowed
+own-allowed o h =
+    rw (own-sent o, same-refl (led-by-20 (fields-bytes (own-fields o))), own-fields-allowed o (own o h)) (unfold all own-fields field rising rising-from in refl)
+
+pub own-changes-nothing : (o : Object) → object-allowed o ≡ true → with-fields (own-fields o) o ≡ o
+unfolding with-fields own-fields value-of sent-state sent-expression field
+own-changes-nothing o h = let w = own o h in rw (w .change, w .read, w .execute)

@@ -1,0 +1,135 @@
+-- The send-back case: where an object's change expression holds, its metadata read back, without C4 and C5, may be sent in and changes
+-- nothing.
+use Prim.Native.Nat.{ℕ, _+_, _*_, _-_, _/_, _%_, _≤_, _<_}
+use mathlib.Core.Bool.{Bool, true, false, not, _&&_, _||_}
+use mathlib.Core.List.{List, [], _∷_, _++_}
+use mathlib.Core.Option.{Option, none, some}
+use mathlib.Core.Path.{_≡_, refl, sym, ap, _∙_}
+use native.Mathlib.Nat.{mod-add-div}
+use native.Mathlib.Omega.{arith}
+use borrow.Author.Tests.{le-ltb, eq-eqb, le-leb}
+use lib.Dec.{eqb, ltb, leb}
+use lib.ListN.{length, length-append}
+use Rattle.rules.specs.declared.Session.{Session}
+use Rattle.rules.specs.declared.Row.the-variants.{SetMetadata}
+use Rattle.rules.specs.Basic.{if_then_else_, rising, high-at}
+use Rattle.rules.specs.Command.{asks-flush, cmd, param, row-of, row, in-length, in-data, length-right, object-number, sent-metadata}
+use Rattle.rules.specs.Response.{done-response, put-in-front}
+use Rattle.rules.specs.Expression.{Expression, expression-bytes, expression-allowed, most-conditions, holds}
+use Rattle.rules.specs.Object.{Object, object-allowed}
+use Rattle.rules.specs.Layout.{objects-allowed, pack, find, replaced}
+use Rattle.rules.specs.Metadata.{field, fields-bytes, object-fields, led-by-20, sent-fields, metadata-allowed, with-fields}
+use Rattle.rules.specs.Refusals.{ill-sized}
+use Rattle.rules.specs.Step.{flushed, step}
+use Rattle.rules.specs.Demand.{Ready, well-formed, writes, content-allowed, changed, MayWrite, WritesExactly, without-sizes, sent-back}
+use Rattle.rules.proofs.Tests.{and-both, at-place}
+use Rattle.rules.proofs.Expressions.{expression-length}
+use Rattle.rules.proofs.Inverse.{Fits, allowed-fits, pack-unpack}
+use Rattle.rules.proofs.Places.{Stands, found, numbers, replaced-at}
+use Rattle.rules.proofs.Keeps.{middle-allowed, each-allowed}
+use Rattle.rules.proofs.Metadata.{own-fields, own-read-back, own-sent, own-allowed, own-changes-nothing}
+use Rattle.rules.proofs.Demand2.{write-exactly-when}
+
+-- 20, L and the fields
+own-content : Object → List ℕ
+own-content o = led-by-20 (fields-bytes (own-fields o))
+
+command-of : Object → List ℕ
+command-of o =
+    0x02 ∷ 0x01 ∷ (2 + length (own-content o)) / 256 ∷ (2 + length (own-content o)) % 256 ∷ o .number / 256 ∷ o .number % 256 ∷ own-content o
+
+sent-is : (o : Object) → sent-back o ≡ command-of o
+unfolding sent-back command-of own-content
+sent-is o = rw (own-read-back o)
+
+-- at most 20, L, C0 and three expressions
+content-short : (o : Object) → Fits o → length (own-content o) ≤ 14 + 3 * (4 * most-conditions - 1)
+unfolding own-content led-by-20 own-fields fields-bytes field
+content-short o f =
+    simp length-append
+    (omega (arith, expression-length (o .change) (f .change), expression-length (o .read) (f .read), expression-length (o .execute) (f .execute)))
+
+-- a number in two bytes, most significant first
+two-bytes : (n : ℕ) → 256 * (n / 256) + n % 256 ≡ n
+two-bytes n = omega (arith, mod-add-div n 256)
+
+module _ (o : Object) (f : Fits o) where
+  abbrev c : List ℕ
+  c = command-of o
+
+  row-is : row c ≡ SetMetadata
+  unfolding command-of row row-of cmd param
+  row-is = refl
+
+  number-is : object-number c ≡ o .number
+  unfolding command-of object-number
+  number-is = two-bytes (o .number)
+
+  length-is : in-length c ≡ 2 + length (own-content o)
+  unfolding command-of in-length
+  length-is = two-bytes (2 + length (own-content o))
+
+  whole : length c ≡ 6 + length (own-content o)
+  unfolding command-of
+  whole = omega arith
+
+  behind : length (in-data c) ≡ 2 + length (own-content o)
+  unfolding command-of in-data
+  behind = omega arith
+
+  formed : well-formed c ≡ true
+  unfolding well-formed ill-sized length-right
+  formed =
+      let s = content-short o f in
+      rw (
+        le-ltb (length c) 4 (omega (arith, whole)),
+        le-ltb 1557 (length c) (omega (arith, whole, s)),
+        eq-eqb (in-length c) (length (in-data c)) (length-is ∙ sym behind),
+        row-is,
+        length-is,
+      )
+      (le-leb 4 (2 + length (own-content o)) (unfold own-content led-by-20 in omega arith))
+
+  content-is : content-allowed (row c) c o ≡ metadata-allowed (o .lcso) (own-content o)
+  unfolding content-allowed sent-metadata command-of
+  content-is = rw row-is
+
+  changed-is : changed (row c) c o ≡ with-fields (sent-fields (own-content o)) o
+  unfolding changed sent-metadata command-of
+  changed-is = rw row-is
+
+  unflushed : (s : Session) → flushed c s ≡ s
+  unfolding flushed asks-flush command-of
+  unflushed s = refl
+
+-- an object in its own place
+replaced-itself : (n : ℕ) (os : List Object) (o : Object) → objects-allowed os ≡ true → find n os ≡ some o → replaced o os ≡ os
+replaced-itself n os o h e =
+    let st = found n os o e in
+    ap (replaced o) (st .split) ∙
+    replaced-at (st .before) o (st .after) o refl (unfold objects-allowed numbers in (rw (st .split) at (at-place _ h 3))) ∙
+    sym (st .split)
+
+pub send-back : (room store : List ℕ) (s : Session) (os : List Object) (n : ℕ) (o : Object) → Ready room store s os → find n os ≡ some o →
+    holds s (o .lcso) (o .change) ≡ true →
+    step (sent-back o) room store s ≡ record { outcome = 0; room = put-in-front (done-response []) room; store = store; session = s }
+unfolding own-content writes
+send-back room store s os n o ready finds holding =
+    let (packed, allowed) = pack-unpack store os (ready .store-sound) in
+    let st = found n os o finds in
+    let ok : object-allowed o ≡ true = middle-allowed (st .before) o (st .after) (rw (st .split) at (each-allowed os allowed)) in
+    let f = allowed-fits o ok in
+    let c = command-of o in
+    let here : find (object-number c) os ≡ some o = ap (λ k. find k os) (number-is o f ∙ st .number) ∙ finds in
+    let w : writes (row c) ≡ true = ap writes (row-is o f) ∙ refl in
+    let kept : pack (replaced (changed (row c) c o) os) ≡ store =
+    ap (λ x. pack (replaced x os)) (changed-is o f ∙ ap (λ fs. with-fields fs o) (own-sent o) ∙ own-changes-nothing o ok) ∙
+    ap pack (replaced-itself n os o allowed finds) ∙ packed in
+    ap (λ x. step x room store s) (sent-is o) ∙
+    write-exactly-when c room store s os o ready w here .when
+    (record {
+      command-well-formed = formed o f;
+      change-condition-holds = holding;
+      content-allowed-and-fits = content-is o f ∙ own-allowed o ok;
+    }) ∙
+    (λ i. record { outcome = 0; room = put-in-front (done-response []) room; store = kept i; session = unflushed o f s i })

@@ -1,0 +1,176 @@
+-- The demands' own words about one command and about two lists.
+use Prim.Native.Nat.{ℕ, _+_, _/_, _%_, _≤_, _<_}
+use mathlib.Core.Bool.{Bool, true, false, not, _&&_}
+use mathlib.Core.List.{List, [], _∷_, _++_}
+use mathlib.Core.Logic.{_⊎_}
+use mathlib.Core.Option.{Option, none, some}
+use mathlib.Core.Path.{_≡_}
+use lib.Dec.{eqb, leb}
+use lib.ListN.{length, getD, take, drop}
+use Rattle.mixing.specs.Runs.{All}
+use Rattle.rules.specs.declared.Session.{Session}
+use Rattle.rules.specs.declared.Refusal.{Refusal}
+use Rattle.rules.specs.declared.Row.{Row}
+use Rattle.rules.specs.declared.Row.the-variants.{GetData, GetMetadata, Write, EraseAndWrite, SetMetadata, OpenApplication, CloseApplication, Unknown}
+use Rattle.rules.specs.Basic.{if_then_else_, among}
+use Rattle.rules.specs.Command.{asks-flush, cmd, row, in-length, names-object, object-number, offset, asked-length, sent-data, sent-metadata, length-right}
+use Rattle.rules.specs.Response.{code, done-response, refused-response, put-in-front}
+use Rattle.rules.specs.Expression.{is-state, holds}
+use Rattle.rules.specs.Object.{Object, used, in-session}
+use Rattle.rules.specs.Layout.{unpack, pack, find, replaced}
+use Rattle.rules.specs.Metadata.{Field, fields-bytes, object-fields, led-by-20, metadata-allowed, sent-fields, with-fields}
+use Rattle.rules.specs.Operation.{put-at, with-content}
+use Rattle.rules.specs.Refusals.{ill-sized}
+use Rattle.rules.specs.Step.{After, raised, flushed, step}
+use Rattle.rules.specs.Run.{Turn}
+
+-- a response stands, and its status byte is 00 or FF
+unfoldable pub is-done : After → Bool
+is-done a = eqb (a .outcome) 0 && eqb (getD (a .room) 0 0) 0x00
+
+unfoldable pub is-refused : After → Bool
+is-refused a = eqb (a .outcome) 0 && eqb (getD (a .room) 0 0) 0xFF
+
+-- demand 1 -------------------------------------------------------------------------------------------------------------
+
+-- the list of numbers
+unfoldable pub listed : ℕ → Bool
+listed n = among (0x01 ∷ 0x03 ∷ 0x04 ∷ 0x05 ∷ 0x06 ∷ 0x07 ∷ 0x08 ∷ 0x0A ∷ 0x0C ∷ 0x0D ∷ []) n
+
+-- a refusal: no stored object changes; the session keeps all but its last error, which, after any flush, rises to the refusal's
+-- number if that is higher; of the room only the response's four bytes change
+pub record RefusedWith (r : Refusal) (c room store : List ℕ) (s : Session) (a : After) : Type 0 where
+  pub number-listed : listed (code r) ≡ true
+  pub outcome : a .outcome ≡ 0
+  pub response : a .room ≡ put-in-front refused-response room
+  pub store-kept : a .store ≡ store
+  pub session-kept : a .session ≡ raised (code r) (flushed c s)
+
+-- whatever the bytes are, one of three: no room for a status and nothing changes at all, refused, or done
+pub data Answered (c room store : List ℕ) (s : Session) (a : After) : Type 0 where
+  no-room : length room < 4 → a ≡ record { outcome = 1; room = room; store = store; session = s } → Answered c room store s a
+  refused : 4 ≤ length room → (r : Refusal) → RefusedWith r c room store s a → is-refused a ≡ true → Answered c room store s a
+  done : 4 ≤ length room → is-done a ≡ true → Answered c room store s a
+
+-- demand 2 -------------------------------------------------------------------------------------------------------------
+
+-- with room to answer, store and session sound and the application usable; os: the stored objects
+pub record Ready (room store : List ℕ) (s : Session) (os : List Object) : Type 0 where
+  pub room-to-answer : 4 ≤ length room
+  pub store-sound : unpack store ≡ some os
+  pub lcsg-sound : is-state (s .lcsg) ≡ true
+  pub lcsa-sound : is-state (s .lcsa) ≡ true
+  pub not-terminated : eqb (s .lcsa) 0x0F ≡ false
+  pub is-open : s .opened ≡ true
+
+-- the command is well formed: its own length and InLen, for its row
+unfoldable pub well-formed : List ℕ → Bool
+well-formed c = not (ill-sized c) && length-right (row c) (in-length c)
+
+-- a write to a stored object: data, erasing or not, and metadata
+unfoldable pub writes : Row → Bool
+writes Write = true
+writes EraseAndWrite = true
+writes SetMetadata = true
+writes GetData = false
+writes GetMetadata = false
+writes OpenApplication = false
+writes CloseApplication = false
+writes Unknown = false
+
+-- the content is allowed and fits
+unfoldable pub content-allowed : Row → List ℕ → Object → Bool
+content-allowed Write c o = leb (offset c + length (sent-data c)) (o .maximum)
+content-allowed EraseAndWrite c o = leb (offset c + length (sent-data c)) (o .maximum)
+content-allowed SetMetadata c o = metadata-allowed (o .lcso) (sent-metadata c)
+content-allowed GetData c o = true
+content-allowed GetMetadata c o = true
+content-allowed OpenApplication c o = true
+content-allowed CloseApplication c o = true
+content-allowed Unknown c o = true
+
+-- the object after a write
+unfoldable pub changed : Row → List ℕ → Object → Object
+changed Write c o = with-content (put-at (offset c) (sent-data c) (o .content)) o
+changed EraseAndWrite c o = with-content (put-at (offset c) (sent-data c) []) o
+changed SetMetadata c o = with-fields (sent-fields (sent-metadata c)) o
+changed GetData c o = o
+changed GetMetadata c o = o
+changed OpenApplication c o = o
+changed CloseApplication c o = o
+changed Unknown c o = o
+
+-- when a write makes its change
+pub record MayWrite (c : List ℕ) (s : Session) (o : Object) : Type 0 where
+  pub command-well-formed : well-formed c ≡ true
+  pub change-condition-holds : holds s (o .lcso) (o .change) ≡ true
+  pub content-allowed-and-fits : content-allowed (row c) c o ≡ true
+
+-- a write makes its change exactly when it may: then it is done and the object, and it alone, is the changed one; else nothing is stored
+pub record WritesExactly (c room store : List ℕ) (s : Session) (os : List Object) (o : Object) : Type 0 where
+  pub when : MayWrite c s o →
+      step c room store s ≡
+      record { outcome = 0; room = put-in-front (done-response []) room; store = pack (replaced (changed (row c) c o) os); session = flushed c s }
+  pub objects-after : MayWrite c s o → unpack (step c room store s .store) ≡ some (replaced (changed (row c) c o) os)
+  pub only-when : is-done (step c room store s) ≡ true → MayWrite c s o
+  pub else-kept : is-done (step c room store s) ≡ false → step c room store s .store ≡ store
+
+-- when a data read shows data
+pub record MayRead (c : List ℕ) (room : ℕ) (s : Session) (o : Object) : Type 0 where
+  pub command-well-formed : well-formed c ≡ true
+  pub read-condition-holds : holds s (o .lcso) (o .read) ≡ true
+  pub within-used : offset c + asked-length c ≤ used o
+  pub answer-fits : 4 + asked-length c ≤ room
+
+-- a data read shows exactly the stored bytes asked for, and only when the read condition holds; it changes nothing stored
+pub record ReadsExactly (c room store : List ℕ) (s : Session) (o : Object) : Type 0 where
+  pub when : MayRead c (length room) s o →
+      step c room store s ≡
+      record {
+        outcome = 0;
+        room = put-in-front (done-response (take (asked-length c) (drop (offset c) (o .content)))) room;
+        store = store;
+        session = flushed c s;
+      }
+  pub only-when : is-done (step c room store s) ≡ true → MayRead c (length room) s o
+  pub store-kept : step c room store s .store ≡ store
+
+-- the send-back case: an object's metadata read back, without C4 and C5, and the command that sends it in -------------------
+
+unfoldable pub without-sizes : List Field → List Field
+without-sizes [] = []
+without-sizes (f ∷ fs) = let rest = without-sizes fs in if among (0xC4 ∷ 0xC5 ∷ []) (f .tag) then rest else f ∷ rest
+
+unfoldable pub sent-back : Object → List ℕ
+sent-back o =
+    let m = led-by-20 (fields-bytes (without-sizes (object-fields o))) in
+    0x02 ∷ 0x01 ∷ (2 + length m) / 256 ∷ (2 + length m) % 256 ∷ o .number / 256 ∷ o .number % 256 ∷ m
+
+-- demand 3 -------------------------------------------------------------------------------------------------------------
+
+-- a read or write command: first byte, the flush bit aside, 01 or 02, whatever its Param, well formed or not
+unfoldable pub reads-or-writes : List ℕ → Bool
+reads-or-writes c = names-object c
+
+-- the object number that a get or set names, in its fifth and sixth bytes; a shorter one names none
+unfoldable pub object-of : List ℕ → Option ℕ
+object-of c = if leb 6 (length c) then some (object-number c) else none
+
+-- what the demand asks of each command
+pub record Plain (t : Turn) : Type 0 where
+  pub is-read-or-write : reads-or-writes (t .command) ≡ true
+  -- it names neither a life cycle object nor the error object
+  pub outside-session : (n : ℕ) → object-of (t .command) ≡ some n → in-session n ≡ false
+  pub no-flush : asks-flush (t .command) ≡ false
+
+-- some command of the list names the object number
+abbrev pub Names : List Turn → ℕ → Type 0
+Names [] n = ⊥
+Names (t ∷ ts) n = (object-of (t .command) ≡ some n) ⊎ Names ts n
+
+-- two lists as the demand takes them
+pub record TwoLists (xs ys : List Turn) : Type 0 where
+  pub first-plain : All Plain xs
+  pub second-plain : All Plain ys
+  -- no object number is named in both lists
+  pub no-common-object : (n : ℕ) → Names xs n → Names ys n → ⊥

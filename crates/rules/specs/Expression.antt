@@ -1,0 +1,158 @@
+-- Life cycles and access expressions: their form, their bytes, their limits, when they hold.
+use Prim.Native.Nat.{ℕ, _+_}
+use mathlib.Core.Bool.{Bool, true, false, _&&_, _||_}
+use mathlib.Core.List.{List, [], _∷_, _++_}
+use mathlib.Core.Option.{Option, none, some}
+use lib.Dec.{eqb, ltb, leb}
+use Rattle.rules.specs.declared.Session.{Session}
+use Rattle.rules.specs.Basic.{if_then_else_, all, among, same}
+
+-- States: 01 creation, 03 initialisation, 07 operational, 0F termination
+unfoldable pub is-state : ℕ → Bool
+is-state n = among (0x01 ∷ 0x03 ∷ 0x07 ∷ 0x0F ∷ []) n
+
+-- a life cycle at `now` may become `next`: one of the four states, and not below
+unfoldable pub may-become : ℕ → ℕ → Bool
+may-become now next = is-state next && leb now next
+
+-- A single condition is three bytes: 70 LcsG, E0 LcsA or E1 LcsO; then FA equal, FB greater, FC less; then a state.
+pub record Condition : Type 0 where
+  pub subject : ℕ
+  pub relation : ℕ
+  pub reference : ℕ
+
+infixr 50 _and_
+infixr 45 _or_
+-- conditions joined by and
+pub data Group : Type 0 where
+  just : Condition → Group
+  _and_ : Condition → Group → Group
+
+-- groups joined by or
+pub data Groups : Type 0 where
+  only : Group → Groups
+  _or_ : Group → Groups → Groups
+
+-- the one byte 00 (always), the one byte FF (never), or conditions joined by FD (and) and FE (or); and binds first
+pub data Expression : Type 0 where
+  always never : Expression
+  when : Groups → Expression
+
+-- bytes -------------------------------------------------------------------------------------------------------------
+
+unfoldable pub condition-bytes : Condition → List ℕ
+condition-bytes c = c .subject ∷ c .relation ∷ c .reference ∷ []
+
+unfoldable pub group-bytes : Group → List ℕ
+group-bytes (just c) = condition-bytes c
+group-bytes (c and g) = condition-bytes c ++ 0xFD ∷ group-bytes g
+
+unfoldable pub groups-bytes : Groups → List ℕ
+groups-bytes (only g) = group-bytes g
+groups-bytes (g or gs) = group-bytes g ++ 0xFE ∷ groups-bytes gs
+
+unfoldable pub expression-bytes : Expression → List ℕ
+expression-bytes always = 0x00 ∷ []
+expression-bytes never = 0xFF ∷ []
+expression-bytes (when gs) = groups-bytes gs
+
+-- limits ------------------------------------------------------------------------------------------------------------
+
+unfoldable pub condition-allowed : Condition → Bool
+condition-allowed c =
+    all
+    (among (0x70 ∷ 0xE0 ∷ 0xE1 ∷ []) (c .subject) ∷
+    among (0xFA ∷ 0xFB ∷ 0xFC ∷ []) (c .relation) ∷
+    is-state (c .reference) ∷ [])
+
+unfoldable pub group-allowed : Group → Bool
+group-allowed (just c) = condition-allowed c
+group-allowed (c and g) = condition-allowed c && group-allowed g
+
+unfoldable pub groups-allowed : Groups → Bool
+groups-allowed (only g) = group-allowed g
+groups-allowed (g or gs) = group-allowed g && groups-allowed gs
+
+unfoldable pub group-size : Group → ℕ
+group-size (just c) = 1
+group-size (c and g) = 1 + group-size g
+
+unfoldable pub conditions : Groups → ℕ
+conditions (only g) = group-size g
+conditions (g or gs) = group-size g + conditions gs
+
+unfoldable pub groups : Groups → ℕ
+groups (only g) = 1
+groups (g or gs) = 1 + groups gs
+
+abbrev pub most-conditions : ℕ
+most-conditions = 7
+
+abbrev pub most-groups : ℕ
+most-groups = 3
+
+-- at most 7 conditions in all, at most 3 groups
+unfoldable pub expression-allowed : Expression → Bool
+expression-allowed always = true
+expression-allowed never = true
+expression-allowed (when gs) = all (groups-allowed gs ∷ leb (conditions gs) most-conditions ∷ leb (groups gs) most-groups ∷ [])
+
+-- reading -----------------------------------------------------------------------------------------------------------
+
+-- a condition before what follows it: FD puts it into the first group, any other byte into a group of its own
+unfoldable pub in-first : Condition → Groups → Groups
+in-first c (only g) = only (c and g)
+in-first c (g or gs) = (c and g) or gs
+
+-- the only groups that these bytes can be; what is not their bytes is caught by `expression` below
+unfoldable pub read-groups : List ℕ → Groups
+read-groups (a ∷ b ∷ c ∷ j ∷ rest) =
+    let k : Condition = record { subject = a; relation = b; reference = c } in
+    let gs = read-groups rest in
+    if eqb j 0xFD then in-first k gs else just k or gs
+read-groups (a ∷ b ∷ c ∷ []) = only (just (record { subject = a; relation = b; reference = c }))
+read-groups (a ∷ b ∷ []) = only (just (record { subject = a; relation = b; reference = 0 }))
+read-groups (a ∷ []) = only (just (record { subject = a; relation = 0; reference = 0 }))
+read-groups [] = only (just (record { subject = 0; relation = 0; reference = 0 }))
+
+unfoldable pub read-expression : List ℕ → Expression
+read-expression b =
+    if same b (0x00 ∷ []) then always else
+    if same b (0xFF ∷ []) then never else
+    when (read-groups b)
+
+-- the expression whose bytes these are, within the limits; none: not well formed
+unfoldable pub expression : List ℕ → Option Expression
+expression b =
+    let e = read-expression b in
+    if expression-allowed e && same (expression-bytes e) b then some e else none
+
+-- when it holds -----------------------------------------------------------------------------------------------------
+
+-- the present state that a condition speaks of, with the object's LcsO given
+unfoldable pub present : Session → ℕ → ℕ → ℕ
+present s lcso subject =
+    if eqb subject 0x70 then s .lcsg else
+    if eqb subject 0xE0 then s .lcsa else
+    lcso
+
+-- it compares the present state to the reference as numbers
+unfoldable pub condition-holds : Session → ℕ → Condition → Bool
+condition-holds s lcso c =
+    let now = present s lcso (c .subject) in
+    if eqb (c .relation) 0xFA then eqb now (c .reference) else
+    if eqb (c .relation) 0xFB then ltb (c .reference) now else
+    ltb now (c .reference)
+
+unfoldable pub group-holds : Session → ℕ → Group → Bool
+group-holds s lcso (just c) = condition-holds s lcso c
+group-holds s lcso (c and g) = condition-holds s lcso c && group-holds s lcso g
+
+unfoldable pub groups-hold : Session → ℕ → Groups → Bool
+groups-hold s lcso (only g) = group-holds s lcso g
+groups-hold s lcso (g or gs) = group-holds s lcso g || groups-hold s lcso gs
+
+unfoldable pub holds : Session → ℕ → Expression → Bool
+holds s lcso always = true
+holds s lcso never = false
+holds s lcso (when gs) = groups-hold s lcso gs

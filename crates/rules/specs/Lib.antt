@@ -1,0 +1,26 @@
+-- The rules of document 01, as definitions that antt computes, in reading order.
+pub mod Basic
+pub mod Hex
+-- Command and response bytes
+pub mod Command
+pub mod Response
+-- Life cycles and access expressions
+pub mod Expression
+-- What an object holds on the controller
+pub mod Object
+pub mod Layout
+pub mod Factory
+pub mod Session
+-- Reading and writing
+pub mod Metadata
+pub mod Operation
+-- When the element says no, in this order
+pub mod Refusals
+pub mod Step
+-- Lists of commands
+pub mod Run
+-- Bench sheet
+pub mod Program
+pub mod Bench
+-- The demands, in their own words
+pub mod Demand

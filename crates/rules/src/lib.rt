@@ -1,0 +1,63 @@
+// The types that every crate shares. specs/ gives each case the number and the values of document 01.
+
+// What the element keeps between commands: application open or closed, LcsG, LcsA, last error.
+pub struct Session {
+    pub opened: bool,
+    pub lcsg: u8,
+    pub lcsa: u8,
+    pub error: u8,
+}
+
+// The number of an object.
+pub struct ObjectNumber(pub u16);
+
+// How far into an object's data.
+pub struct Offset(pub usize);
+
+// A count of bytes.
+pub struct Length(pub usize);
+
+// Why a command is refused.
+pub enum Refusal {
+    InvalidObject,
+    InvalidParam,
+    InvalidLength,
+    InvalidData,
+    InternalError,
+    AccessDenied,
+    BoundaryExceeded,
+    InvalidCommand,
+    NotAvailable,
+    InsufficientBuffer,
+}
+
+// What the steps 2 to 13 say of a command.
+pub enum Verdict {
+    Refused(Refusal),
+    Accepted,
+}
+
+// The row of the command table that Cmd and Param name.
+pub enum Row {
+    GetData,
+    GetMetadata,
+    Write,
+    EraseAndWrite,
+    SetMetadata,
+    OpenApplication,
+    CloseApplication,
+    Unknown,
+}
+
+// Where the record of an object begins in the store.
+pub enum Found {
+    At(usize),
+    Nothing,
+}
+
+// The three slots of a record, for change, read and execute.
+pub enum Slot {
+    Change,
+    Read,
+    Execute,
+}

@@ -1,0 +1,140 @@
+-- The search for a record: how far it has come, and each of its ways out.
+use Prim.Native.Nat.{ℕ, zero, suc, _+_, _*_, _-_, _<_, _≤_}
+use mathlib.Core.Path.{_≡_, refl, sym, ap, _∙_}
+use mathlib.Core.List.{List, [], _∷_, _++_}
+use mathlib.Core.Bool.{Bool, true, false, not, _&&_, false≢true}
+use mathlib.Core.Option.{Option, none, some}
+use native.Mathlib.Omega.{arith}
+use borrow.Author.Tests.{eq-eqb, ne-eqb}
+use lib.Dec.{eqb}
+use lib.ListN.{length, getD, take, drop, length-drop, drop-of-length-le}
+use lib.Seq.{take-at, drop-at, drop-drop}
+use Rattle.rules.specs.Basic.{if_then_else_, same, low-at, is-some, or-else}
+use Rattle.rules.specs.Object.{Object, object-allowed, all-allowed}
+use Rattle.rules.specs.Layout.{record-bytes, pack, read-record, unpack, found-behind, found}
+use Rattle.rules.proofs.Tests.{and-left, and-right, same-refl}
+use Rattle.rules.proofs.Inverse.{allowed-fits, record-length, record-read, in-count, pack-unpack}
+use Rattle.rules.specs.declared.Found.{Found}
+use Rattle.rules.specs.declared.Found.the-variants.{At, Nothing}
+use Rattle.store.specs.Places.{object-at, stands-at, Stored}
+use Rattle.store.proofs.Standing.{stored}
+
+-- what is left of a search that has come to `at`
+pub record Ahead (n : ℕ) (b : List ℕ) (at : ℕ) : Type 0 where
+  pub objects : List Object
+  pub bytes : drop at b ≡ pack objects
+  pub allowed : all-allowed objects ≡ true
+  pub same : found n (or-else (unpack b) []) ≡ found-behind at n objects
+  pub inside : at ≤ length b
+
+sound-some : (m : Option (List Object)) → is-some m ≡ true → m ≡ some (or-else m [])
+sound-some none h = absurd (false≢true h)
+sound-some (some x) h = refl
+
+pub start : (n : ℕ) (b : List ℕ) → is-some (unpack b) ≡ true → Ahead n b 0
+start n b h =
+    let (e, ok) = pack-unpack b (or-else (unpack b) []) (sound-some (unpack b) h) in
+    record { objects = or-else (unpack b) []; bytes = sym e; allowed = in-count _ ok .1; same = unfold found in refl; inside = omega arith }
+
+parts : (o : Object) (os : List Object) → all-allowed (o ∷ os) ≡ true → (object-allowed o ≡ true) × (all-allowed os ≡ true)
+unfolding all-allowed
+parts o os k = (and-left (object-allowed o) (all-allowed os) k, and-right (object-allowed o) (all-allowed os) k)
+
+module _ (n at : ℕ) (b : List ℕ) where
+  -- the record that stands there
+  record First (a : Ahead n b at) : Type 0 where
+    object : Object
+    others : List Object
+    split : a .objects ≡ object ∷ others
+    ok : object-allowed object ≡ true
+    rest-ok : all-allowed others ≡ true
+    here : drop at b ≡ record-bytes object ++ pack others
+
+  first : (a : Ahead n b at) → at < length b → First a
+  first a h = go (a .objects) refl
+    where
+      go : (os : List Object) → a .objects ≡ os → First a
+      go [] e = let z : drop at b ≡ [] = a .bytes ∙ ap pack e ∙ (unfold pack in refl) in absurd (omega (arith, simp length-drop at (ap length z)))
+      go (o ∷ os) e =
+          let k : all-allowed (o ∷ os) ≡ true = ap all-allowed (sym e) ∙ a .allowed in
+          let k′ = parts o os k in
+          record {
+            object = o;
+            others = os;
+            split = e;
+            ok = k′ .0;
+            rest-ok = k′ .1;
+            here = a .bytes ∙ ap pack e ∙ (unfold pack in refl);
+          }
+
+  module _ (a : Ahead n b at) (h : at < length b) where
+    read-is : object-at at b ≡ first a h .object
+    unfolding object-at
+    read-is = let f = first a h in ap read-record (f .here) ∙ record-read (f .object) (pack (f .others)) (allowed-fits (f .object) (f .ok))
+
+    pub here-stored : Stored at b
+    here-stored = stored at b (unfold stands-at in rw (read-is, first a h .ok, taken, same-refl (record-bytes (first a h .object))))
+      where
+        taken : take (96 + first a h .object .maximum) (drop at b) ≡ record-bytes (first a h .object)
+        taken =
+            let f = first a h in
+            ap (take (96 + f .object .maximum)) (f .here) ∙
+            take-at (record-bytes (f .object)) (pack (f .others)) (96 + f .object .maximum) (record-length (f .object) (allowed-fits (f .object) (f .ok)))
+
+    pub four-in : at + 4 + 1 < length b
+    four-in = omega (arith, here-stored .inside)
+
+    pub six-in : at + 6 + 1 < length b
+    six-in = omega (arith, here-stored .inside)
+
+    opened : found n (or-else (unpack b) []) ≡
+        (if eqb n (object-at at b .number) then At at else found-behind (at + (96 + object-at at b .maximum)) n (first a h .others))
+    opened =
+        let f = first a h in
+        a .same ∙ ap (found-behind at n) (f .split) ∙ one ∙
+        ap (λ (o : Object). if eqb n (o .number) then At at else found-behind (at + (96 + o .maximum)) n (first a h .others)) (sym read-is)
+      where
+        one : found-behind at n (first a h .object ∷ first a h .others) ≡
+            (if eqb n (first a h .object .number) then At at else found-behind (at + (96 + first a h .object .maximum)) n (first a h .others))
+        one = unfold found-behind in refl
+
+    module _ (k : ℕ) (ek : k ≡ low-at (at + 4) b) where
+      number-is : k ≡ object-at at b .number
+      number-is = ek ∙ here-stored .number-is
+
+      pub found-here : k ≡ n → At at ≡ found n (or-else (unpack b) [])
+      found-here e = sym (opened ∙ rw (eq-eqb n (object-at at b .number) (sym e ∙ number-is)))
+
+      module _ (m : ℕ) (em : m ≡ low-at (at + 6) b) where
+        maximum-is : m ≡ object-at at b .maximum
+        maximum-is = em ∙ here-stored .maximum-is
+
+        pub go-on : (k ≡ n → ⊥) → Ahead n b (at + (96 + m))
+        go-on e =
+            let f = first a h in
+            let q : 96 + m ≡ length (record-bytes (f .object)) =
+            ap (λ x. 96 + x) (maximum-is ∙ ap (λ (o : Object). o .maximum) read-is) ∙ sym (record-length (f .object) (allowed-fits (f .object) (f .ok))) in
+            record {
+              objects = f .others;
+              bytes = sym (drop-drop (96 + m) at b) ∙ ap (drop (96 + m)) (f .here) ∙ drop-at (record-bytes (f .object)) (pack (f .others)) (96 + m) (sym q);
+              allowed = f .rest-ok;
+              same =
+                  opened ∙ rw (ne-eqb n (object-at at b .number) (λ z. e (number-is ∙ sym z)))
+                  (ap (λ x. found-behind (at + (96 + x)) n (f .others)) (sym maximum-is));
+              inside = omega (arith, here-stored .inside, maximum-is);
+            }
+
+        pub jump : at + (96 + m) ≤ length b
+        jump = omega (arith, here-stored .inside, maximum-is)
+
+  pub search-end : Ahead n b at → length b ≤ at → Nothing ≡ found n (or-else (unpack b) [])
+  search-end a h = sym (a .same ∙ go (a .objects) refl)
+    where
+      go : (os : List Object) → a .objects ≡ os → found-behind at n (a .objects) ≡ Nothing
+      go [] e = ap (found-behind at n) e ∙ (unfold found-behind in refl)
+      go (o ∷ os) e =
+          let k : all-allowed (o ∷ os) ≡ true = ap all-allowed (sym e) ∙ a .allowed in
+          let k′ = parts o os k in
+          let z : [] ≡ record-bytes o ++ pack os = sym (drop-of-length-le b {i = at} h) ∙ a .bytes ∙ ap pack e ∙ (unfold pack in refl) in
+          let l = record-length o (allowed-fits o (k′ .0)) in
+          absurd (omega (arith, l, simp lib.ListN.length-append at (ap length z)))
