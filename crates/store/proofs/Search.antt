@@ -1,23 +1,21 @@
 -- The search for a record: how far it has come, and each of its ways out.
-use Prim.Native.Nat.{ℕ, zero, suc, _+_, _*_, _-_, _<_, _≤_}
+use Prim.Native.Nat.{ℕ, _+_, _<_, _≤_}
 use mathlib.Core.Path.{_≡_, refl, sym, ap, _∙_}
 use mathlib.Core.List.{List, [], _∷_, _++_}
-use mathlib.Core.Bool.{Bool, true, false, not, _&&_, false≢true}
-use mathlib.Core.Option.{Option, none, some}
+use mathlib.Core.Bool.{true}
 use native.Mathlib.Omega.{arith}
 use borrow.Author.Tests.{eq-eqb, ne-eqb}
 use lib.Dec.{eqb}
-use lib.ListN.{length, getD, take, drop, length-drop, drop-of-length-le}
-use lib.Seq.{take-at, drop-at, drop-drop}
-use Rattle.rules.specs.Basic.{if_then_else_, same, low-at, is-some, or-else}
+use lib.ListN.{length, drop, length-append, length-drop, drop-of-length-le}
+use Rattle.rules.specs.Basic.{if_then_else_, low-at, is-some, or-else}
 use Rattle.rules.specs.Object.{Object, object-allowed, all-allowed}
-use Rattle.rules.specs.Layout.{record-bytes, pack, read-record, unpack, found-behind, found}
-use Rattle.rules.proofs.Tests.{and-left, and-right, same-refl}
-use Rattle.rules.proofs.Inverse.{allowed-fits, record-length, record-read, in-count, pack-unpack}
-use Rattle.rules.specs.declared.Found.{Found}
+use Rattle.rules.specs.Layout.{head-size, record-size, record-bytes, pack, unpack, found-behind, found}
+use Rattle.rules.proofs.Tests.{and-left, and-right}
+use Rattle.expression.proofs.Tests.{some-else}
+use Rattle.rules.proofs.Inverse.{allowed-fits, record-length, in-count, pack-unpack}
 use Rattle.rules.specs.declared.Found.the-variants.{At, Nothing}
-use Rattle.store.specs.Places.{object-at, stands-at, Stored}
-use Rattle.store.proofs.Standing.{stored}
+use Rattle.store.specs.Places.{object-at, Stored}
+use Rattle.store.proofs.Standing.{rest-here, object-here, stands-here, stored}
 
 -- what is left of a search that has come to `at`
 pub record Ahead (n : ℕ) (b : List ℕ) (at : ℕ) : Type 0 where
@@ -27,13 +25,9 @@ pub record Ahead (n : ℕ) (b : List ℕ) (at : ℕ) : Type 0 where
   pub same : found n (or-else (unpack b) []) ≡ found-behind at n objects
   pub inside : at ≤ length b
 
-sound-some : (m : Option (List Object)) → is-some m ≡ true → m ≡ some (or-else m [])
-sound-some none h = absurd (false≢true h)
-sound-some (some x) h = refl
-
 pub start : (n : ℕ) (b : List ℕ) → is-some (unpack b) ≡ true → Ahead n b 0
 start n b h =
-    let (e, ok) = pack-unpack b (or-else (unpack b) []) (sound-some (unpack b) h) in
+    let (e, ok) = pack-unpack b (or-else (unpack b) []) (some-else (unpack b) [] h) in
     record { objects = or-else (unpack b) []; bytes = sym e; allowed = in-count _ ok .1; same = unfold found in refl; inside = omega arith }
 
 parts : (o : Object) (os : List Object) → all-allowed (o ∷ os) ≡ true → (object-allowed o ≡ true) × (all-allowed os ≡ true)
@@ -69,17 +63,10 @@ module _ (n at : ℕ) (b : List ℕ) where
 
   module _ (a : Ahead n b at) (h : at < length b) where
     read-is : object-at at b ≡ first a h .object
-    unfolding object-at
-    read-is = let f = first a h in ap read-record (f .here) ∙ record-read (f .object) (pack (f .others)) (allowed-fits (f .object) (f .ok))
+    read-is = let f = first a h in object-here at b (f .object) (pack (f .others)) (f .ok) (f .here)
 
     pub here-stored : Stored at b
-    here-stored = stored at b (unfold stands-at in rw (read-is, first a h .ok, taken, same-refl (record-bytes (first a h .object))))
-      where
-        taken : take (96 + first a h .object .maximum) (drop at b) ≡ record-bytes (first a h .object)
-        taken =
-            let f = first a h in
-            ap (take (96 + f .object .maximum)) (f .here) ∙
-            take-at (record-bytes (f .object)) (pack (f .others)) (96 + f .object .maximum) (record-length (f .object) (allowed-fits (f .object) (f .ok)))
+    here-stored = let f = first a h in stored at b (stands-here at b (f .object) (pack (f .others)) (f .ok) (f .here))
 
     pub four-in : at + 4 + 1 < length b
     four-in = omega (arith, here-stored .inside)
@@ -88,14 +75,14 @@ module _ (n at : ℕ) (b : List ℕ) where
     six-in = omega (arith, here-stored .inside)
 
     opened : found n (or-else (unpack b) []) ≡
-        (if eqb n (object-at at b .number) then At at else found-behind (at + (96 + object-at at b .maximum)) n (first a h .others))
+        (if eqb n (object-at at b .number) then At at else found-behind (at + record-size (object-at at b)) n (first a h .others))
     opened =
         let f = first a h in
         a .same ∙ ap (found-behind at n) (f .split) ∙ one ∙
-        ap (λ (o : Object). if eqb n (o .number) then At at else found-behind (at + (96 + o .maximum)) n (first a h .others)) (sym read-is)
+        ap (λ (o : Object). if eqb n (o .number) then At at else found-behind (at + record-size o) n (first a h .others)) (sym read-is)
       where
         one : found-behind at n (first a h .object ∷ first a h .others) ≡
-            (if eqb n (first a h .object .number) then At at else found-behind (at + (96 + first a h .object .maximum)) n (first a h .others))
+            (if eqb n (first a h .object .number) then At at else found-behind (at + record-size (first a h .object)) n (first a h .others))
         one = unfold found-behind in refl
 
     module _ (k : ℕ) (ek : k ≡ low-at (at + 4) b) where
@@ -109,23 +96,20 @@ module _ (n at : ℕ) (b : List ℕ) where
         maximum-is : m ≡ object-at at b .maximum
         maximum-is = em ∙ here-stored .maximum-is
 
-        pub go-on : (k ≡ n → ⊥) → Ahead n b (at + (96 + m))
+        pub go-on : (k ≡ n → ⊥) → Ahead n b (at + head-size + m)
         go-on e =
             let f = first a h in
-            let q : 96 + m ≡ length (record-bytes (f .object)) =
-            ap (λ x. 96 + x) (maximum-is ∙ ap (λ (o : Object). o .maximum) read-is) ∙ sym (record-length (f .object) (allowed-fits (f .object) (f .ok))) in
+            let q : at + record-size (object-at at b) ≡ at + head-size + m = omega (arith, maximum-is) in
+            let r : record-size (f .object) ≡ record-size (object-at at b) = ap (λ (o : Object). record-size o) (sym read-is) in
             record {
               objects = f .others;
-              bytes = sym (drop-drop (96 + m) at b) ∙ ap (drop (96 + m)) (f .here) ∙ drop-at (record-bytes (f .object)) (pack (f .others)) (96 + m) (sym q);
+              bytes = ap (λ k. drop k b) (sym q) ∙ ap (λ k. drop (at + k) b) (sym r) ∙ rest-here at b (f .object) (pack (f .others)) (f .ok) (f .here);
               allowed = f .rest-ok;
               same =
                   opened ∙ rw (ne-eqb n (object-at at b .number) (λ z. e (number-is ∙ sym z)))
-                  (ap (λ x. found-behind (at + (96 + x)) n (f .others)) (sym maximum-is));
+                  (ap (λ k. found-behind k n (f .others)) q);
               inside = omega (arith, here-stored .inside, maximum-is);
             }
-
-        pub jump : at + (96 + m) ≤ length b
-        jump = omega (arith, here-stored .inside, maximum-is)
 
   pub search-end : Ahead n b at → length b ≤ at → Nothing ≡ found n (or-else (unpack b) [])
   search-end a h = sym (a .same ∙ go (a .objects) refl)
@@ -137,4 +121,4 @@ module _ (n at : ℕ) (b : List ℕ) where
           let k′ = parts o os k in
           let z : [] ≡ record-bytes o ++ pack os = sym (drop-of-length-le b {i = at} h) ∙ a .bytes ∙ ap pack e ∙ (unfold pack in refl) in
           let l = record-length o (allowed-fits o (k′ .0)) in
-          absurd (omega (arith, l, simp lib.ListN.length-append at (ap length z)))
+          absurd (omega (arith, l, simp length-append at (ap length z)))

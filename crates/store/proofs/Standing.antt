@@ -1,145 +1,178 @@
--- What a standing record tells: its bytes, its slots, its data.
-use Prim.Native.Nat.{ℕ, zero, suc, _+_, _*_, _-_, _/_, _%_, _≤_, _<_}
-use mathlib.Core.Bool.{Bool, true, false, _&&_, false≢true}
-use mathlib.Core.List.{List, [], _∷_, _++_, append-assoc}
-use mathlib.Core.Option.{Option, none, some}
+-- A record at a place of the store: what its bytes say of its object, and its slots.
+use Prim.Native.Nat.{ℕ, _+_, _*_, _-_, _≤_}
+use mathlib.Core.Bool.{true}
+use mathlib.Core.List.{List, _++_, append-assoc}
 use mathlib.Core.Path.{_≡_, refl, sym, ap, _∙_}
 use native.Mathlib.Omega.{arith}
+use native.Mathlib.Nat.{add-zero, add-assoc}
 use borrow.Author.Tests.{leb-true}
-use lib.Dec.{eqb}
-use lib.ListN.{length, getD, take, drop, length-append, length-take, length-drop, length-replicate, take-append-drop}
+use lib.ListN.{length, getD, take, drop, length-append, length-take, length-drop, take-append-drop}
 use lib.Seq.{take-at, drop-at, drop-drop, getD-drop}
-use Rattle.rules.specs.Basic.{if_then_else_, all, same, zeros, low-at}
+use Rattle.rules.specs.declared.Slot.{Slot}
+use Rattle.rules.specs.declared.Slot.the-variants.{Change, Read, Execute}
+use Rattle.rules.specs.Basic.{same, zeros, low-at}
 use Rattle.rules.specs.Expression.{Expression, expression-bytes, expression-allowed}
-use Rattle.rules.specs.Object.{Object, used, object-allowed}
-use Rattle.rules.specs.Layout.{slot-of, slot, record-bytes}
+use Rattle.rules.specs.Object.{Object, used, object-allowed, expression-in}
+use Rattle.rules.specs.Layout.{slot-size, slots-at, head-size, slot-at, record-size, slot-of, slot, record-bytes, read-record}
 use Rattle.rules.proofs.Tests.{and-left, and-right, at-place, same-eq, same-refl}
 use Rattle.rules.proofs.Expressions.{expression-length}
-use Rattle.rules.proofs.Inverse.{Fits, allowed-fits, record-length, record-read, in-count, pack-unpack}
+use Rattle.rules.proofs.Inverse.{allowed-fits, slot-length, record-length, record-read, two-bytes, past-one, past-two, past-three}
 use Rattle.store.specs.Places.{object-at, stands-at, Stored}
 
--- the store b, taken apart at p
-pub record Standing (p : ℕ) (b : List ℕ) (o : Object) : Type 0 where
-  pub allowed : object-allowed o ≡ true
-  pub here : drop p b ≡ record-bytes o ++ drop (p + (96 + o .maximum)) b
-  pub inside : p + (96 + o .maximum) ≤ length b
-
-pub standing : (p : ℕ) (b : List ℕ) → stands-at p b ≡ true → Standing p b (object-at p b)
-unfolding stands-at
-standing p b h =
-    let o = object-at p b in
-    let ok = and-left (object-allowed o) (same (take (96 + o .maximum) (drop p b)) (record-bytes o)) h in
-    let e = same-eq (take (96 + o .maximum) (drop p b)) (record-bytes o) (and-right (object-allowed o) (same (take (96 + o .maximum) (drop p b)) (record-bytes o)) h) in
-    let n = record-length o (allowed-fits o ok) in
-    let m : length (take (96 + o .maximum) (drop p b)) ≡ 96 + o .maximum = ap length e ∙ n in
-    record {
-      allowed = ok;
-      here =
-          sym (take-append-drop (96 + o .maximum) (drop p b)) ∙ ap (λ x. x ++ drop (96 + o .maximum) (drop p b)) e ∙
-          ap (λ x. record-bytes o ++ x) (drop-drop (96 + o .maximum) p b);
-      inside = omega (arith, simp (length-take, length-drop) at m);
-    }
-
--- slots -----------------------------------------------------------------------------------------------------------------
+low-drop : (p k : ℕ) (b : List ℕ) → low-at k (drop p b) ≡ low-at (p + k) b
+unfolding low-at
+low-drop p k b = simp (getD-drop, add-assoc)
 
 -- the slot at q holds the expression e
-pub record Slot (q : ℕ) (b : List ℕ) (e : Expression) : Type 0 where
+pub record Slotted (q : ℕ) (b : List ℕ) (e : Expression) : Type 0 where
   pub rest : List ℕ
   pub here : drop q b ≡ slot e ++ rest
   pub allowed : expression-allowed e ≡ true
 
-pub slot-long : (e : Expression) → expression-allowed e ≡ true → length (slot e) ≡ 28
-unfolding slot slot-of
-slot-long e h = simp (length-append, length-replicate) (omega (arith, expression-length e h))
+-- the record of an allowed object begins at p, before r -----------------------------------------------------------------
 
-module _ (p : ℕ) (b : List ℕ) (h : stands-at p b ≡ true) where
-  o : Object
-  o = object-at p b
+module _ (p : ℕ) (b : List ℕ) (o : Object) (r : List ℕ) (h : object-allowed o ≡ true) (e : drop p b ≡ record-bytes o ++ r) where
+  two-here : (k n : ℕ) → low-at k (record-bytes o ++ r) ≡ n → low-at (p + k) b ≡ n
+  two-here k n q = sym (low-drop p k b) ∙ ap (low-at k) e ∙ q
 
-  past : ℕ → List ℕ
-  past n = drop n (slot (o .change) ++ (slot (o .read) ++ (slot (o .execute) ++ ((o .content ++ (zeros (o .maximum - used o) ++ [])) ++ drop (p + (96 + o .maximum)) b))))
+  pub size-here : low-at p b ≡ record-size o
+  size-here = ap (λ k. low-at k b) (sym (add-zero p)) ∙ two-here 0 (record-size o) (unfold low-at record-bytes in two-bytes (record-size o))
 
-  head-past : (n : ℕ) → drop (p + (12 + n)) b ≡ past n
-  unfolding o past record-bytes
-  head-past n =
-      sym (drop-drop (12 + n) p b) ∙ ap (drop (12 + n)) (standing p b h .here) ∙ sym (drop-drop n 12 (record-bytes o ++ drop (p + (96 + o .maximum)) b)) ∙
-      ap (drop n) (simp append-assoc)
+  pub number-here : low-at (p + 4) b ≡ o .number
+  number-here = two-here 4 (o .number) (unfold low-at record-bytes in two-bytes (o .number))
 
-  pub change-slot : Slot (p + 12) b (object-at p b .change)
-  unfolding o past
-  change-slot = record { rest = _; here = head-past 0; allowed = allowed-fits o (standing p b h .allowed) .change }
+  pub maximum-here : low-at (p + 6) b ≡ o .maximum
+  maximum-here = two-here 6 (o .maximum) (unfold low-at record-bytes in two-bytes (o .maximum))
 
-  pub read-slot : Slot (p + 40) b (object-at p b .read)
-  unfolding o past
-  read-slot =
-      let f = allowed-fits o (standing p b h .allowed) in
-      record { rest = _; here = head-past 28 ∙ drop-at (slot (o .change)) _ 28 (slot-long (o .change) (f .change)); allowed = f .read }
+  pub used-here : low-at (p + 8) b ≡ used o
+  used-here = two-here 8 (used o) (unfold low-at record-bytes in two-bytes (used o))
 
-  pub execute-slot : Slot (p + 68) b (object-at p b .execute)
-  unfolding o past
-  execute-slot =
-      let f = allowed-fits o (standing p b h .allowed) in
-      let tail = (o .content ++ (zeros (o .maximum - used o) ++ [])) ++ drop (p + (96 + o .maximum)) b in
-      let third = slot (o .execute) ++ tail in
+  pub state-here : getD b (p + 10) 0 ≡ o .lcso
+  state-here = sym (getD-drop p b 10 0) ∙ ap (λ x. getD x 10 0) e ∙ (unfold record-bytes in refl)
+
+  pub length-here : length b - p ≡ record-size o + length r
+  length-here =
+      sym (length-drop p b) ∙ ap length e ∙ length-append (record-bytes o) r ∙ ap (λ n. n + length r) (record-length o (allowed-fits o h))
+
+  pub record-here : take (record-size o) (drop p b) ≡ record-bytes o
+  record-here = ap (take (record-size o)) e ∙ take-at (record-bytes o) r (record-size o) (record-length o (allowed-fits o h))
+
+  pub rest-here : drop (p + record-size o) b ≡ r
+  rest-here =
+      sym (drop-drop (record-size o) p b) ∙ ap (drop (record-size o)) e ∙
+      drop-at (record-bytes o) r (record-size o) (record-length o (allowed-fits o h))
+
+  pub object-here : object-at p b ≡ o
+  unfolding object-at
+  object-here = ap read-record e ∙ record-read o r (allowed-fits o h)
+
+  pub stands-here : stands-at p b ≡ true
+  unfolding stands-at
+  stands-here = rw (object-here, h, record-here, same-refl (record-bytes o))
+
+  -- its slots, then its data
+  long-change : length (slot (o .change)) ≡ slot-size
+  long-change = slot-length (o .change) (allowed-fits o h .change)
+
+  long-read : length (slot (o .read)) ≡ slot-size
+  long-read = slot-length (o .read) (allowed-fits o h .read)
+
+  long-execute : length (slot (o .execute)) ≡ slot-size
+  long-execute = slot-length (o .execute) (allowed-fits o h .execute)
+
+  rest : List ℕ
+  rest = o .content ++ (zeros (o .maximum - used o) ++ r)
+
+  after : (k : ℕ) (x : List ℕ) → drop k (slot (o .change) ++ (slot (o .read) ++ (slot (o .execute) ++ rest))) ≡ x → drop (p + (slots-at + k)) b ≡ x
+  unfolding rest record-bytes
+  after k x q =
+      sym (drop-drop (slots-at + k) p b) ∙ sym (drop-drop k slots-at (drop p b)) ∙
+      ap (λ y. drop k (drop slots-at y)) e ∙ ap (drop k) (simp append-assoc) ∙ q
+
+  pub slot-here : (w : Slot) → Slotted (p + slot-at w) b (expression-in w o)
+  unfolding slot-at expression-in
+  slot-here Change = record { rest = _; here = after 0 _ refl; allowed = allowed-fits o h .change }
+  slot-here Read =
       record {
-        rest = tail;
-        here =
-            head-past 56 ∙ sym (drop-drop 28 28 (slot (o .change) ++ (slot (o .read) ++ third))) ∙
-            ap (drop 28) (drop-at (slot (o .change)) (slot (o .read) ++ third) 28 (slot-long (o .change) (f .change))) ∙
-            drop-at (slot (o .read)) third 28 (slot-long (o .read) (f .read));
-        allowed = f .execute;
+        rest = _;
+        here = after slot-size _ (past-one (slot (o .change)) (slot (o .read)) (slot (o .execute)) rest long-change long-read long-execute);
+        allowed = allowed-fits o h .read;
+      }
+  slot-here Execute =
+      record {
+        rest = _;
+        here = after (2 * slot-size) _ (past-two (slot (o .change)) (slot (o .read)) (slot (o .execute)) rest long-change long-read long-execute);
+        allowed = allowed-fits o h .execute;
       }
 
+  pub data-here : drop (p + head-size) b ≡ o .content ++ (zeros (o .maximum - used o) ++ r)
+  unfolding rest
+  data-here = after (3 * slot-size) _ (past-three (slot (o .change)) (slot (o .read)) (slot (o .execute)) rest long-change long-read long-execute)
+
 -- what the slot's bytes say
-module _ (q : ℕ) (b : List ℕ) (e : Expression) (s : Slot q b e) where
-  pub slot-inside : q + 28 ≤ length b
-  slot-inside =
-      omega (arith, simp (length-append, length-drop, slot-long e (s .allowed)) at (ap length (s .here)))
+module _ (q : ℕ) (b : List ℕ) (e : Expression) (s : Slotted q b e) where
+  pub slot-inside : q + slot-size ≤ length b
+  slot-inside = omega (arith, simp (length-append, length-drop, slot-length e (s .allowed)) at (ap length (s .here)))
 
   pub slot-count : getD b q 0 ≡ length (expression-bytes e)
   unfolding slot slot-of
-  slot-count = ap (λ k. getD b k 0) (omega arith) ∙ sym (getD-drop q b 0 0) ∙ ap (λ x. getD x 0 0) (s .here)
+  slot-count = ap (λ k. getD b k 0) (sym (add-zero q)) ∙ sym (getD-drop q b 0 0) ∙ ap (λ x. getD x 0 0) (s .here)
 
-  pub slot-small : length (expression-bytes e) ≤ 27
-  slot-small = omega (arith, expression-length e (s .allowed))
+  pub slot-small : getD b q 0 ≤ slot-size - 1
+  slot-small = omega (arith, slot-count, expression-length e (s .allowed))
 
   pub slot-value : take (getD b q 0) (drop (q + 1) b) ≡ expression-bytes e
   unfolding slot slot-of
   slot-value =
       let x = expression-bytes e in
+      let z = zeros (slot-size - 1 - length x) in
       rw slot-count
-      (ap (take (length x)) (sym (drop-drop 1 q b) ∙ ap (drop 1) (s .here) ∙ append-assoc x (zeros (27 - length x)) (s .rest)) ∙
-      take-at x (zeros (27 - length x) ++ s .rest) (length x) refl)
+      (ap (take (length x)) (sym (drop-drop 1 q b) ∙ ap (drop 1) (s .here) ∙ append-assoc x z (s .rest)) ∙
+      take-at x (z ++ s .rest) (length x) refl)
+
+-- the store b, taken apart at p -------------------------------------------------------------------------------------------
+
+pub record Standing (p : ℕ) (b : List ℕ) (o : Object) : Type 0 where
+  pub allowed : object-allowed o ≡ true
+  pub here : drop p b ≡ record-bytes o ++ drop (p + record-size o) b
+  pub inside : p + record-size o ≤ length b
+
+pub standing : (p : ℕ) (b : List ℕ) → stands-at p b ≡ true → Standing p b (object-at p b)
+unfolding stands-at
+standing p b h =
+    let o = object-at p b in
+    let n = record-size o in
+    let ok = and-left (object-allowed o) (same (take n (drop p b)) (record-bytes o)) h in
+    let e = same-eq (take n (drop p b)) (record-bytes o) (and-right (object-allowed o) (same (take n (drop p b)) (record-bytes o)) h) in
+    let m : length (take n (drop p b)) ≡ n = ap length e ∙ record-length o (allowed-fits o ok) in
+    record {
+      allowed = ok;
+      here =
+          sym (take-append-drop n (drop p b)) ∙ ap (λ x. x ++ drop n (drop p b)) e ∙
+          ap (λ x. record-bytes o ++ x) (drop-drop n p b);
+      inside = omega (arith, simp (length-take, length-drop) at m);
+    }
 
 -- all of it, as a function asks for it -------------------------------------------------------------------------------------
 
--- the byte at k of a record
-byte-at : (p k : ℕ) (b : List ℕ) (h : stands-at p b ≡ true) → getD b (p + k) 0 ≡ getD (record-bytes (object-at p b) ++ drop (p + (96 + object-at p b .maximum)) b) k 0
-byte-at p k b h = sym (getD-drop p b k 0) ∙ ap (λ x. getD x k 0) (standing p b h .here)
-
--- the number in two of its bytes
-two-at : (p k n : ℕ) (b : List ℕ) → getD b (p + k) 0 ≡ n % 256 → getD b (p + (k + 1)) 0 ≡ n / 256 → low-at (p + k) b ≡ n
-unfolding low-at
-two-at p k n b x y =
-    let q : p + k + 1 ≡ p + (k + 1) = omega arith in
-    let e : getD b (p + k + 1) 0 ≡ n / 256 = ap (λ z. getD b z 0) q ∙ y in
-    omega arith
-
 pub stored : (p : ℕ) (b : List ℕ) → stands-at p b ≡ true → Stored p b
+unfolding slot-at
 stored p b h =
+    let o = object-at p b in
     let s = standing p b h in
-    let f = allowed-fits (object-at p b) (s .allowed) in
+    let r = drop (p + record-size o) b in
+    let ok = s .allowed in
     record {
       stands = h;
       inside = s .inside;
-      some-room = unfold object-allowed in leb-true 1 (object-at p b .maximum) (at-place _ (s .allowed) 2);
-      most = unfold object-allowed in leb-true (object-at p b .maximum) 1500 (at-place _ (s .allowed) 3);
-      used-fits = f .fits;
-      number-is = two-at p 4 (object-at p b .number) b (byte-at p 4 b h ∙ (unfold record-bytes in refl)) (byte-at p 5 b h ∙ (unfold record-bytes in refl));
-      maximum-is = two-at p 6 (object-at p b .maximum) b (byte-at p 6 b h ∙ (unfold record-bytes in refl)) (byte-at p 7 b h ∙ (unfold record-bytes in refl));
-      used-is = two-at p 8 (used (object-at p b)) b (byte-at p 8 b h ∙ (unfold record-bytes in refl)) (byte-at p 9 b h ∙ (unfold record-bytes in refl));
-      state-is = byte-at p 10 b h ∙ (unfold record-bytes in refl);
-      change-small = omega (arith, slot-count (p + 12) b _ (change-slot p b h), slot-small (p + 12) b _ (change-slot p b h));
-      read-small = omega (arith, slot-count (p + 40) b _ (read-slot p b h), slot-small (p + 40) b _ (read-slot p b h));
-      execute-small = omega (arith, slot-count (p + 68) b _ (execute-slot p b h), slot-small (p + 68) b _ (execute-slot p b h));
+      some-room = unfold object-allowed in leb-true 1 (o .maximum) (at-place _ ok 2);
+      most = unfold object-allowed in leb-true (o .maximum) 1500 (at-place _ ok 3);
+      used-fits = allowed-fits o ok .fits;
+      number-is = number-here p b o r ok (s .here);
+      maximum-is = maximum-here p b o r ok (s .here);
+      used-is = used-here p b o r ok (s .here);
+      state-is = state-here p b o r ok (s .here);
+      change-small = slot-small _ b _ (slot-here p b o r ok (s .here) Change);
+      read-small = slot-small _ b _ (slot-here p b o r ok (s .here) Read);
+      execute-small = slot-small _ b _ (slot-here p b o r ok (s .here) Execute);
     }

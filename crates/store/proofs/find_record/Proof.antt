@@ -1,14 +1,10 @@
-use Prim.Native.Nat.{_≤_, _-_}
-use lib.ListN.{length}
-use native.Mathlib.Omega.{arith}
-use Rattle.store.proofs.Search.{Ahead}
-use Rattle.store.proofs.Search.{start, four-in, six-in, found-here, go-on, jump, search-end}
+-- What is left to search is the records from `at` on.
 use borrow.Author.Needs.{needs}
+use Prim.Native.Nat.{_-_}
+use lib.ListN.{length}
+use Rattle.store.proofs.Search.{Ahead, start, four-in, six-in, found-here, go-on, search-end}
 use Rattle.store.proofs.find_record.Statement.{statement}
 use Rattle.store.proofs.find_record.Tie as tie
-use Rattle.store.proofs.find_record.Reads as reads
-use Rattle.store.proofs.find_record.Lts as lts
-use Rattle.primitives.proofs.low_at.Reads as low-at-reads
 
 abbrev Inv-loop : tie.InvT-loop
 Inv-loop store wanted at₀ at = Ahead wanted store at
@@ -19,39 +15,35 @@ abbrev μ-loop : tie.MeasureT-loop
 loop-holds : tie.Need-loop-holds Inv-loop μ-loop
 loop-holds c = search start
 
+add-next : tie.Need-add-next Inv-loop μ-loop
+add-next c = search needs
+
 add-low-at : tie.Need-add-low-at Inv-loop μ-loop
 add-low-at c = search needs
 
 low-at-requires : tie.Need-low-at-requires Inv-loop μ-loop
-low-at-requires c κs = search four-in
+low-at-requires c κs = search six-in
 
-returns : tie.Need-returns Inv-loop μ-loop
-returns c = search found-here
+cast-next : tie.Need-cast-next Inv-loop μ-loop
+cast-next c = search needs
+
+add-next-2 : tie.Need-add-next-2 Inv-loop μ-loop
+add-next-2 c = search needs
 
 add-low-at-2 : tie.Need-add-low-at-2 Inv-loop μ-loop
 add-low-at-2 c = search needs
 
 low-at-requires-2 : tie.Need-low-at-requires-2 Inv-loop μ-loop
-low-at-requires-2 c κs = search six-in
+low-at-requires-2 c κs = search four-in
 
-cast-at : tie.Need-cast-at Inv-loop μ-loop
-cast-at c = search needs
-
-add-at : tie.Need-add-at Inv-loop μ-loop
-add-at c = search needs
-
-add-at-2 : tie.Need-add-at-2 Inv-loop μ-loop
-add-at-2 c = search needs
+returns : tie.Need-returns Inv-loop μ-loop
+returns c = search found-here
 
 loop-less : tie.Need-loop-less Inv-loop μ-loop
 loop-less c = search needs
 
 loop-again : tie.Need-loop-again Inv-loop μ-loop
-loop-again c =
-    let e = c .before in
-    let k = e .before in
-    let i = k .before in
-    go-on _ (i .before .loop .at) (i .before .before .before .args .store .now) (i .before .loop .inv) (i .loop-test .taken) _ (k .low-at .ensures) _ (c .low-at2 .ensures) (e .if1 .left)
+loop-again c = search go-on
 
 returns-2 : tie.Need-returns-2 Inv-loop μ-loop
 returns-2 c = search search-end
@@ -63,14 +55,14 @@ find-record-spec =
     Inv-loop
     μ-loop
     loop-holds
+    add-next
     add-low-at
     low-at-requires
-    returns
+    cast-next
+    add-next-2
     add-low-at-2
     low-at-requires-2
-    cast-at
-    add-at
-    add-at-2
+    returns
     loop-less
     loop-again
     returns-2)

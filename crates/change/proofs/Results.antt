@@ -1,0 +1,128 @@
+-- What each function leaves in the store: bytes put where a record stands are the record of the changed object.
+use Prim.Native.Nat.{ℕ, _+_, _-_, _≤_, _<_, max}
+use mathlib.Core.Bool.{true}
+use mathlib.Core.List.{List, [], _∷_, _++_}
+use mathlib.Core.Path.{_≡_, refl, sym, ap, _∙_}
+use native.Mathlib.Omega.{arith}
+use lib.ListN.{length, take, drop, length-take, length-drop, length-replicate}
+use Rattle.rules.specs.Basic.{zeros, low-first, low-at, is-some}
+use Rattle.rules.specs.declared.Slot.{Slot}
+use Rattle.rules.specs.Expression.{expression, read-expression}
+use Rattle.rules.specs.Object.{Object, object-allowed}
+use Rattle.rules.specs.Layout.{slot-size, head-size, record-size, slot-at, slot-of, slot, record-bytes}
+use Rattle.rules.specs.Operation.{with-content, put-at}
+use Rattle.rules.proofs.Expressions.{expression-length}
+use Rattle.rules.proofs.Inverse.{allowed-fits, record-length, slot-length}
+use Rattle.primitives.specs.Bytes.{over}
+use Rattle.primitives.proofs.Over.{over-length, over-over}
+use Rattle.store.specs.Places.{object-at, Stored, with-record}
+use Rattle.change.specs.Change.{with-lcso, with-expression}
+use Rattle.change.proofs.Inside.{over-inside, lent-over, lent-whole}
+use Rattle.change.proofs.Changed.{stands-allowed, unchanged}
+use Rattle.change.proofs.Left.{Left, left-start, left-object, left-stored, left-erased, left-written}
+use Rattle.change.proofs.Records.{written-record, erased-record, lcso-record, slot-record, slot-in-head, read-allowed}
+
+-- what `put_slot` puts
+pub slot-by : (r q0 q1 xs v : List ℕ) (at : ℕ) → at + slot-size ≤ length xs → length v < slot-size → q0 ≡ over at (length v ∷ []) xs →
+    q1 ≡ over (at + 1) v q0 → r ≡ over (at + 1 + length v) (zeros (slot-size - 1 - length v)) q1 → r ≡ over at (slot-of v) xs
+unfolding slot-of
+slot-by r q0 q1 xs v at h l e0 e1 e2 =
+    let z = zeros (slot-size - 1 - length v) in
+    let n : length z ≡ slot-size - 1 - length v = length-replicate (slot-size - 1 - length v) 0 in
+    let s1 : q1 ≡ over at (length v ∷ v) xs = e1 ∙ ap (over (at + 1) v) e0 ∙ over-over at (at + 1) (length v ∷ []) v xs refl (omega arith) in
+    e2 ∙ ap (over (at + 1 + length v) z) s1 ∙ over-over at (at + 1 + length v) (length v ∷ v) z xs (omega arith) (omega arith)
+
+module _ (p : ℕ) (b : List ℕ) (s : Stored p b) where
+  ok : object-allowed (object-at p b) ≡ true
+  ok = stands-allowed p b s
+
+  long : length (record-bytes (object-at p b)) ≡ record-size (object-at p b)
+  long = record-length (object-at p b) (allowed-fits (object-at p b) ok)
+
+  -- bytes put into the store at k of the record are put into the record
+  pub put-into : (k : ℕ) (y : List ℕ) → k + length y ≤ record-size (object-at p b) → over (p + k) y b ≡ over p (over k y (record-bytes (object-at p b))) b
+  put-into k y l =
+      let r = record-bytes (object-at p b) in
+      let same : b ≡ over p r b = sym (unfold with-record in unchanged p b s) in
+      ap (over (p + k) y) same ∙ over-inside p k y r b (omega (arith, s .inside)) (omega (arith, long))
+
+  -- twice
+  put-twice : (k j : ℕ) (y x : List ℕ) → k + length y ≤ record-size (object-at p b) → j + length x ≤ record-size (object-at p b) →
+      over (p + j) x (over (p + k) y b) ≡ over p (over j x (over k y (record-bytes (object-at p b)))) b
+  put-twice k j y x l m =
+      let r = record-bytes (object-at p b) in
+      ap (over (p + j) x) (put-into k y l) ∙
+      over-inside p j x (over k y r) b (omega (arith, s .inside)) (omega (arith, long, over-length k y r (omega (arith, long))))
+
+  pub set-lcso-by : (st : ℕ) (r : List ℕ) → r ≡ over (p + 10) (st ∷ []) b → r ≡ with-record p (with-lcso st (object-at p b)) b
+  unfolding with-record
+  set-lcso-by st r e = e ∙ put-into 10 (st ∷ []) (omega arith) ∙ ap (λ x. over p x b) (lcso-record (object-at p b) ok st)
+
+  module _ (t : Slot) (v : List ℕ) (h : is-some (expression v) ≡ true) where
+    pub value-small : length v < slot-size
+    value-small =
+        let (k, e) = read-allowed v h in
+        omega (arith, expression-length (read-expression v) k, ap length e)
+
+    module _ (k : ℕ) (ek : k ≡ slot-at t) where
+      pub slot-in : p + k + slot-size ≤ length b
+      slot-in = omega (arith, s .inside, slot-in-head t)
+
+      pub set-expression-by : (r : List ℕ) → r ≡ over (p + k) (slot-of v) b → r ≡ with-record p (with-expression t (read-expression v) (object-at p b)) b
+      unfolding with-record
+      set-expression-by r e =
+          let (a, q) = read-allowed v h in
+          let x = read-expression v in
+          let z : slot-of v ≡ slot x = unfold slot in ap slot-of (sym q) in
+          e ∙ (λ i. over (p + ek i) (z i) b) ∙
+          put-into (slot-at t) (slot x) (omega (arith, slot-length x a, slot-in-head t)) ∙
+          ap (λ y. over p y b) (slot-record t x (object-at p b) ok a)
+
+  -- the data part ends at e
+  module _ (e : ℕ) (end : e ≡ p + head-size + object-at p b .maximum) where
+    -- with another count of used bytes the store is as long
+    used-length : (v : ℕ) → length (over (p + 8) (low-first v) b) ≡ length b
+    used-length v = over-length (p + 8) (low-first v) b (omega (arith, s .inside))
+
+    pub write-by : (k u v : ℕ) (src b1 d : List ℕ) → k + length src ≤ object-at p b .maximum → u ≡ low-at (p + 8) b → v ≡ max u (k + length src) →
+        b1 ≡ over (p + 8) (low-first v) b → d ≡ over k src (take (e - (p + head-size)) (drop (p + head-size) b1)) →
+        take (p + head-size) b1 ++ (d ++ drop (e - (p + head-size)) (drop (p + head-size) b1)) ≡
+        with-record p (with-content (put-at k src (object-at p b .content)) (object-at p b)) b
+    unfolding with-record
+    write-by k u v src b1 d h eu ev e1 ed =
+        let n : length b1 ≡ length b = ap length e1 ∙ used-length v in
+        let q : p + head-size + k ≡ p + (head-size + k) = omega arith in
+        lent-over (p + head-size) k (e - (p + head-size)) src d b1 (omega (arith, s .inside)) (omega arith) ed ∙
+        (λ i. over (q i) src (e1 i)) ∙ put-twice 8 (head-size + k) (low-first v) src (omega arith) (omega arith) ∙
+        ap (λ x. over p x b) (written-record (object-at p b) ok k v src h (ev ∙ ap (λ x. max x (k + length src)) (eu ∙ s .used-is)))
+
+    pub erase-by : (b1 d : List ℕ) → b1 ≡ over (p + 8) (low-first 0) b → d ≡ zeros (length (take (e - (p + head-size)) (drop (p + head-size) b1))) →
+        take (p + head-size) b1 ++ (d ++ drop (e - (p + head-size)) (drop (p + head-size) b1)) ≡ with-record p (with-content [] (object-at p b)) b
+    unfolding with-record
+    erase-by b1 d e1 ed =
+        let m = object-at p b .maximum in
+        let n : length b1 ≡ length b = ap length e1 ∙ used-length 0 in
+        let l : length (take (e - (p + head-size)) (drop (p + head-size) b1)) ≡ m = simp (length-take, length-drop) (omega (arith, s .inside)) in
+        let z : d ≡ zeros m = ed ∙ ap zeros l in
+        let k : length (zeros m) ≡ m = length-replicate m 0 in
+        let k′ : length d ≡ e - (p + head-size) = omega (arith, ap length z) in
+        lent-whole (p + head-size) (e - (p + head-size)) d b1 k′ ∙
+        (λ i. over (p + head-size) (z i) (e1 i)) ∙ put-twice 8 head-size (low-first 0) (zeros m) (omega arith) (omega arith) ∙
+        ap (λ x. over p x b) (erased-record (object-at p b) ok)
+
+  -- a write to the store b1 where all data was zeroed
+  module _ (b1 : List ℕ) (e : b1 ≡ with-record p (with-content [] (object-at p b)) b) where
+    erased : Left p b (with-content [] (object-at p b)) b1
+    erased = left-erased p b (object-at p b) b (left-start p b s) b1 e
+
+    pub erased-stored : Stored p b1
+    erased-stored = left-stored p b _ b1 erased
+
+    pub erased-room : (n : ℕ) → n ≤ object-at p b .maximum → n ≤ object-at p b1 .maximum
+    erased-room n h = omega (arith, ap (λ (o : Object). o .maximum) (left-object p b _ b1 erased), erased .maximum)
+
+    pub erase-write-by : (k : ℕ) (src r : List ℕ) → k + length src ≤ object-at p b .maximum →
+        r ≡ with-record p (with-content (put-at k src (object-at p b1 .content)) (object-at p b1)) b1 →
+        r ≡ with-record p (with-content (put-at k src []) (object-at p b)) b
+    unfolding with-content
+    erase-write-by k src r h f = left-written p b _ b1 erased r k src h f .bytes

@@ -1,0 +1,4 @@
+pub mod Tests
+pub mod Parts
+pub mod Steps
+pub mod InForm

@@ -1,0 +1,65 @@
+-- The parts of a command, and the session's last error, as the code reads them.
+use Prim.Native.Nat.{ℕ, _+_, _-_, _<_, _≤_, max}
+use mathlib.Core.Path.{_≡_, refl, sym, ap, _∙_}
+use mathlib.Core.List.{List, [], _∷_}
+use mathlib.Core.Bool.{Bool, true, false, not}
+use native.Mathlib.Omega.{arith}
+use borrow.Author.Tests.{le-leb, lt-leb, leb-true, leb-false, lt-ltb, le-ltb}
+use lib.Dec.{leb, ltb}
+use lib.ListN.{length, getD}
+use Rattle.rules.specs.declared.Refusal.{Refusal}
+use Rattle.rules.specs.declared.Row.{Row}
+use Rattle.rules.specs.declared.Session.{Session}
+use Rattle.rules.specs.Basic.{if_then_else_}
+use Rattle.rules.specs.Command.{asks-flush, cmd, param, row-of, row}
+use Rattle.rules.specs.Response.{code}
+use Rattle.rules.specs.Session.{with-error}
+use Rattle.rules.specs.Step.{flushed, raised}
+use Rattle.command.proofs.Tests.{stop, next}
+
+pub empty-flush : (c : List ℕ) → length c < 1 → false ≡ asks-flush c
+unfolding asks-flush
+empty-flush [] h = refl
+empty-flush (x ∷ c) h = absurd (omega arith)
+
+pub row-by : (r : Row) (c : List ℕ) (n : ℕ) → n ≡ cmd c → r ≡ row-of n (getD c 1 0) → r ≡ row c
+unfolding row param
+row-by r c n e f = rw e at f
+
+-- the boundary test without a sum
+pub past-limit : (a n limit : ℕ) → limit < a → false ≡ leb (a + n) limit
+past-limit a n limit h = sym (lt-leb (a + n) limit (omega arith))
+
+pub up-to-limit : (a n limit : ℕ) → a ≤ limit → leb n (limit - a) ≡ leb (a + n) limit
+up-to-limit a n limit h = both (leb n (limit - a)) refl
+  where
+    both : (t : Bool) → leb n (limit - a) ≡ t → leb n (limit - a) ≡ leb (a + n) limit
+    both true e = let k = leb-true n (limit - a) e in e ∙ sym (le-leb (a + n) limit (omega arith))
+    both false e = let k = leb-false n (limit - a) e in e ∙ sym (lt-leb (a + n) limit (omega arith))
+
+-- the room of step 13 by the same test
+pub room-by : (n room : ℕ) (q t : Bool) → q ≡ leb (4 + n) room → not q ≡ t → ltb room (4 + n) ≡ t
+room-by n room true t e f = le-ltb room (4 + n) (leb-true (4 + n) room (sym e)) ∙ f
+room-by n room false t e f = lt-ltb room (4 + n) (leb-false (4 + n) room (sym e)) ∙ f
+
+pub ruleset late-steps = (stop, next, room-by, refl)
+
+pub code-by : (w v : Refusal) (r : ℕ) → w ≡ v → r ≡ code v → r ≡ code w
+code-by w v r e f = rw e f
+
+-- the last error
+pub flushes : (c : List ℕ) (s r : Session) (q : Bool) → q ≡ asks-flush c → q ≡ true → r ≡ with-error 0 s → r ≡ flushed c s
+unfolding flushed
+flushes c s r q e h f = rw (← e, h) f
+
+pub keeps-error : (c : List ℕ) (s : Session) (q : Bool) → q ≡ asks-flush c → q ≡ false → s ≡ flushed c s
+unfolding flushed
+keeps-error c s q e h = rw (← e, h)
+
+pub raised-new : (s r : Session) (k : ℕ) → s .error < k → r ≡ with-error k s → r ≡ raised k s
+unfolding raised
+raised-new s r k h e = let m : k ≡ max (s .error) k = omega arith in e ∙ ap (λ n. with-error n s) m
+
+pub raised-old : (s : Session) (k : ℕ) → k ≤ s .error → s ≡ raised k s
+unfolding raised with-error
+raised-old s k h = let m : s .error ≡ max (s .error) k = omega arith in ap (λ n. with-error n s) m

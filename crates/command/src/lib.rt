@@ -1,0 +1,350 @@
+// A command's parts, the steps of the refusals that look at no object, and the session's last error.
+use rules::Length;
+use rules::ObjectNumber;
+use rules::Offset;
+use rules::Refusal;
+use rules::Row;
+use rules::Session;
+use rules::Verdict;
+ghost use mathlib.Core.Path.{_≡_};
+ghost use Prim.Native.Nat.{_+_, _≤_};
+ghost use lib.Dec.{leb};
+ghost use lib.ListN.{length};
+ghost use Rattle.rules.specs.Basic.{same};
+ghost use Rattle.rules.specs.Expression.{is-state};
+ghost use Rattle.rules.specs.Command.{asks-flush, cmd, row-of, row, known-cmd, length-right};
+ghost use Rattle.rules.specs.Command.{object-number, offset, asked-length, sent-data, sent-metadata};
+ghost use Rattle.rules.specs.Refusals.{unsound, ill-sized, unknown-cmd, unusable, unknown-param, wrong-length, other-identifier};
+ghost use Rattle.rules.specs.Refusals.{early, late};
+ghost use Rattle.rules.specs.Response.{code};
+ghost use Rattle.rules.specs.Session.{with-error};
+ghost use Rattle.rules.specs.Step.{flushed, raised};
+
+// The parts of a command.
+
+// The top bit of Cmd; an empty command has none.
+pub fn asks_flush(command: &[u8]) -> bool
+    ensures { λ r. ⌜ r ≡ asks-flush (now (command .entry)) ⌝ }
+{
+    if command.len() < 1 {
+        return false;
+    }
+    0x80 <= command[0]
+}
+
+// Cmd, the flush bit aside.
+fn cmd(command: &[u8]) -> u8
+    requires { ⌜ 1 ≤ length (now command) ⌝ }
+    ensures { λ r. ⌜ r ≡ cmd (now (command .entry)) ⌝ }
+{
+    command[0] % 0x80
+}
+
+fn row_of(cmd: u8, param: u8) -> Row
+    ensures { λ r. ⌜ r ≡ row-of cmd param ⌝ }
+{
+    if primitives::both(cmd == 0x01, param == 0x00) {
+        return Row::GetData;
+    }
+    if primitives::both(cmd == 0x01, param == 0x01) {
+        return Row::GetMetadata;
+    }
+    if primitives::both(cmd == 0x02, param == 0x00) {
+        return Row::Write;
+    }
+    if primitives::both(cmd == 0x02, param == 0x40) {
+        return Row::EraseAndWrite;
+    }
+    if primitives::both(cmd == 0x02, param == 0x01) {
+        return Row::SetMetadata;
+    }
+    if primitives::both(cmd == 0x70, param == 0x00) {
+        return Row::OpenApplication;
+    }
+    if primitives::both(cmd == 0x71, param == 0x00) {
+        return Row::CloseApplication;
+    }
+    Row::Unknown
+}
+
+pub fn row_of_command(command: &[u8]) -> Row
+    requires { ⌜ 2 ≤ length (now command) ⌝ }
+    ensures { λ r. ⌜ r ≡ row (now (command .entry)) ⌝ }
+{
+    row_of(cmd(command), command[1])
+}
+
+pub fn object_number(command: &[u8]) -> ObjectNumber
+    requires { ⌜ 6 ≤ length (now command) ⌝ }
+    ensures { λ r. ⌜ r .0 ≡ object-number (now (command .entry)) ⌝ }
+{
+    ObjectNumber(primitives::high_at(command, 4))
+}
+
+pub fn offset(command: &[u8]) -> Offset
+    requires { ⌜ 8 ≤ length (now command) ⌝ }
+    ensures { λ r. ⌜ r .0 ≡ offset (now (command .entry)) ⌝ }
+{
+    Offset(primitives::high_at(command, 6) as usize)
+}
+
+pub fn asked_length(command: &[u8]) -> Length
+    requires { ⌜ 10 ≤ length (now command) ⌝ }
+    ensures { λ r. ⌜ r .0 ≡ asked-length (now (command .entry)) ⌝ }
+{
+    Length(primitives::high_at(command, 8) as usize)
+}
+
+pub fn sent_data(command: &[u8]) -> &[u8]
+    requires { ⌜ 8 ≤ length (now command) ⌝ }
+    ensures { λ r. ⌜ now r ≡ sent-data (now (command .entry)) ⌝ }
+{
+    &command[8..]
+}
+
+pub fn sent_metadata(command: &[u8]) -> &[u8]
+    requires { ⌜ 6 ≤ length (now command) ⌝ }
+    ensures { λ r. ⌜ now r ≡ sent-metadata (now (command .entry)) ⌝ }
+{
+    &command[6..]
+}
+
+// The steps 2 to 8, one function each.
+
+// Step 2.
+fn unsound(sound: bool, session: Session) -> bool
+    ensures { λ r. ⌜ r ≡ unsound sound session ⌝ }
+{
+    if !sound {
+        return true;
+    }
+    if !expression::is_state(session.lcsg) {
+        return true;
+    }
+    !expression::is_state(session.lcsa)
+}
+
+// Step 3.
+fn ill_sized(command: &[u8]) -> bool
+    ensures { λ r. ⌜ r ≡ ill-sized (now (command .entry)) ⌝ }
+{
+    let n = command.len();
+    if n < 4 {
+        return true;
+    }
+    if 1557 < n {
+        return true;
+    }
+    primitives::high_at(command, 2) as usize != n - 4
+}
+
+fn known_cmd(n: u8) -> bool
+    ensures { λ r. ⌜ r ≡ known-cmd n ⌝ }
+{
+    if n == 0x01 {
+        return true;
+    }
+    if n == 0x02 {
+        return true;
+    }
+    if n == 0x70 {
+        return true;
+    }
+    n == 0x71
+}
+
+// Step 4.
+fn unknown_cmd(command: &[u8]) -> bool
+    requires { ⌜ 4 ≤ length (now command) ⌝ }
+    ensures { λ r. ⌜ r ≡ unknown-cmd (now (command .entry)) ⌝ }
+{
+    !known_cmd(cmd(command))
+}
+
+// Step 5.
+fn unusable(command: &[u8], session: Session) -> bool
+    requires { ⌜ 4 ≤ length (now command) ⌝ }
+    ensures { λ r. ⌜ r ≡ unusable (now (command .entry)) session ⌝ }
+{
+    if session.lcsa == 0x0F {
+        return true;
+    }
+    if session.opened {
+        return false;
+    }
+    cmd(command) != 0x70
+}
+
+// Step 6.
+fn unknown_param(command: &[u8]) -> bool
+    requires { ⌜ 4 ≤ length (now command) ⌝ }
+    ensures { λ r. ⌜ r ≡ unknown-param (now (command .entry)) ⌝ }
+{
+    let asked = row_of_command(command);
+    match asked {
+        Row::Unknown => true,
+        _ => false,
+    }
+}
+
+fn length_right(asked: Row, n: usize) -> bool
+    ensures { λ r. ⌜ r ≡ length-right asked n ⌝ }
+{
+    match asked {
+        Row::GetData => n == 6,
+        Row::GetMetadata => n == 2,
+        Row::Write => 5 <= n,
+        Row::EraseAndWrite => 5 <= n,
+        Row::SetMetadata => 4 <= n,
+        Row::OpenApplication => n == 16,
+        Row::CloseApplication => n == 0,
+        Row::Unknown => false,
+    }
+}
+
+// Step 7.
+fn wrong_length(command: &[u8]) -> bool
+    requires { ⌜ 4 ≤ length (now command) ⌝ }
+    ensures { λ r. ⌜ r ≡ wrong-length (now (command .entry)) ⌝ }
+{
+    !length_right(
+        row_of_command(command),
+        primitives::high_at(command, 2) as usize,
+    )
+}
+
+fn same(a: &[u8], b: &[u8]) -> bool
+    ensures { λ r. ⌜ r ≡ same (now (a .entry)) (now (b .entry)) ⌝ }
+{
+    if a.len() != b.len() {
+        return false;
+    }
+    let mut i = 0;
+    while i < a.len() {
+        if a[i] != b[i] {
+            return false;
+        }
+        i += 1;
+    }
+    true
+}
+
+// Step 8.
+fn other_identifier(command: &[u8]) -> bool
+    requires { ⌜ 4 ≤ length (now command) ⌝ }
+    ensures { λ r. ⌜ r ≡ other-identifier (now (command .entry)) ⌝ }
+{
+    if cmd(command) == 0x70 {
+        return !same(&command[4..], b"\xD2\x76\x00\x00\x04GenAuthAppl");
+    }
+    false
+}
+
+// The steps 2 to 8, in their order.
+pub fn early(sound: bool, command: &[u8], session: Session) -> Verdict
+    ensures { λ r. ⌜ r ≡ early sound (now (command .entry)) session ⌝ }
+{
+    if unsound(sound, session) {
+        return Verdict::Refused(Refusal::InternalError);
+    }
+    if ill_sized(command) {
+        return Verdict::Refused(Refusal::InvalidLength);
+    }
+    if unknown_cmd(command) {
+        return Verdict::Refused(Refusal::InvalidCommand);
+    }
+    if unusable(command, session) {
+        return Verdict::Refused(Refusal::NotAvailable);
+    }
+    if unknown_param(command) {
+        return Verdict::Refused(Refusal::InvalidParam);
+    }
+    if wrong_length(command) {
+        return Verdict::Refused(Refusal::InvalidLength);
+    }
+    if other_identifier(command) {
+        return Verdict::Refused(Refusal::InvalidData);
+    }
+    Verdict::Accepted
+}
+
+// The steps 10 to 13.
+
+// So many bytes from an offset stay within a limit: the boundary test of step 11. A difference, since a sum could wrap.
+pub fn fits(from: Offset, count: Length, limit: Length) -> bool
+    ensures { λ r. ⌜ r ≡ leb (from .0 + count .0) (limit .0) ⌝ }
+{
+    if limit.0 < from.0 {
+        return false;
+    }
+    count.0 <= limit.0 - from.0
+}
+
+// The verdict on an answer of so many bytes, for a room of this size.
+pub fn late(granted: bool, within: bool, allowed: bool, answer: Length, room: usize) -> Verdict
+    ensures { λ r. ⌜ r ≡ late granted within allowed (answer .0) room ⌝ }
+{
+    if !granted {
+        return Verdict::Refused(Refusal::AccessDenied);
+    }
+    if !within {
+        return Verdict::Refused(Refusal::BoundaryExceeded);
+    }
+    if !allowed {
+        return Verdict::Refused(Refusal::InvalidData);
+    }
+    if !fits(Offset(4), answer, Length(room)) {
+        return Verdict::Refused(Refusal::InsufficientBuffer);
+    }
+    Verdict::Accepted
+}
+
+// What a refusal, and a flush, leave in the session.
+
+pub fn code(refusal: Refusal) -> u8
+    ensures { λ r. ⌜ r ≡ code refusal ⌝ }
+{
+    match refusal {
+        Refusal::InvalidObject => 0x01,
+        Refusal::InvalidParam => 0x03,
+        Refusal::InvalidLength => 0x04,
+        Refusal::InvalidData => 0x05,
+        Refusal::InternalError => 0x06,
+        Refusal::AccessDenied => 0x07,
+        Refusal::BoundaryExceeded => 0x08,
+        Refusal::InvalidCommand => 0x0A,
+        Refusal::NotAvailable => 0x0C,
+        Refusal::InsufficientBuffer => 0x0D,
+    }
+}
+
+fn with_error(session: Session, error: u8) -> Session
+    ensures { λ r. ⌜ r ≡ with-error error session ⌝ }
+{
+    Session {
+        opened: session.opened,
+        lcsg: session.lcsg,
+        lcsa: session.lcsa,
+        error: error,
+    }
+}
+
+// The last error becomes 0 where the command asks for it.
+pub fn flushed(command: &[u8], session: Session) -> Session
+    ensures { λ r. ⌜ r ≡ flushed (now (command .entry)) session ⌝ }
+{
+    if asks_flush(command) {
+        return with_error(session, 0);
+    }
+    session
+}
+
+// The larger error is kept.
+pub fn raised(session: Session, code: u8) -> Session
+    ensures { λ r. ⌜ r ≡ raised code session ⌝ }
+{
+    if session.error < code {
+        return with_error(session, code);
+    }
+    session
+}

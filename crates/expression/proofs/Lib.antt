@@ -1,0 +1,4 @@
+pub mod Tests
+pub mod Conditions
+pub mod Forms
+pub mod Holding

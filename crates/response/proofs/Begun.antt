@@ -1,0 +1,48 @@
+-- Laws of responses: put at the front, and written piece by piece.
+use Prim.Native.Nat.{ℕ, _+_, _≤_}
+use mathlib.Core.Path.{_≡_, refl, sym, ap, _∙_}
+use mathlib.Core.List.{List, [], _∷_, _++_, append-assoc}
+use lib.ListN.{length, drop, length-append}
+use native.Mathlib.Omega.{arith}
+use native.Mathlib.Nat.{zero-add}
+use Rattle.rules.specs.Basic.{high-first}
+use Rattle.rules.specs.Response.{put-in-front, done-response, refused-response}
+use Rattle.primitives.specs.Bytes.{over}
+use Rattle.primitives.proofs.Over.{over-over, over-length}
+use Rattle.response.specs.Begun.{begun}
+
+pub front-over : (y xs : List ℕ) → over 0 y xs ≡ put-in-front y xs
+unfolding over put-in-front
+front-over y xs = ap (λ k. y ++ drop k xs) (zero-add (length y))
+
+pub refused-by : (r xs : List ℕ) → r ≡ over 0 (0xFF ∷ 0x00 ∷ 0x00 ∷ 0x00 ∷ []) xs → r ≡ put-in-front refused-response xs
+unfolding refused-response
+refused-by r xs e = e ∙ front-over (0xFF ∷ 0x00 ∷ 0x00 ∷ 0x00 ∷ []) xs
+
+module _ (n : ℕ) (xs q : List ℕ) where
+  pub begun-head : q ≡ over 0 (0x00 ∷ 0x00 ∷ high-first n) xs → q ≡ begun n [] xs
+  unfolding begun
+  begun-head e = e
+
+  pub begun-more : (x y r : List ℕ) (at : ℕ) → q ≡ begun n x xs → r ≡ over at y q → 4 + length x ≡ at → at + length y ≤ length xs → r ≡ begun n (x ++ y) xs
+  unfolding begun
+  begun-more x y r at e f p h =
+      let front : List ℕ = 0x00 ∷ 0x00 ∷ high-first n in
+      let k : 0 + length (front ++ x) ≡ at = omega arith in
+      f ∙ ap (over at y) e ∙ over-over 0 at (front ++ x) y xs k h ∙ ap (λ z. over 0 z xs) (append-assoc front x y)
+
+  pub begun-length : (x : List ℕ) → q ≡ begun n x xs → 4 + length x ≤ length xs → length q ≡ length xs
+  unfolding begun
+  begun-length x e h = ap length e ∙ over-length 0 ((0x00 ∷ 0x00 ∷ high-first n) ++ x) xs (omega arith)
+
+  pub begun-done : (x : List ℕ) → n ≡ length x → q ≡ begun n x xs → q ≡ put-in-front (done-response x) xs
+  unfolding begun done-response
+  begun-done x l e = e ∙ ap (λ k. over 0 ((0x00 ∷ 0x00 ∷ high-first k) ++ x) xs) l ∙ front-over ((0x00 ∷ 0x00 ∷ high-first (length x)) ++ x) xs
+
+-- with nothing behind the head, and with bytes right behind it
+pub head-done : (xs q : List ℕ) → q ≡ over 0 (0x00 ∷ 0x00 ∷ high-first 0) xs → q ≡ put-in-front (done-response []) xs
+head-done xs q e = begun-done 0 xs q [] refl (begun-head 0 xs q e)
+
+pub head-then : (n : ℕ) (xs q r x : List ℕ) → q ≡ over 0 (0x00 ∷ 0x00 ∷ high-first n) xs → r ≡ over 4 x q → n ≡ length x → 4 + length x ≤ length xs →
+    r ≡ put-in-front (done-response x) xs
+head-then n xs q r x e f l h = begun-done n xs r x l (begun-more n xs q [] x r 4 (begun-head n xs q e) f refl h)

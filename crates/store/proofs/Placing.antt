@@ -1,0 +1,133 @@
+-- For callers: where `found` says that a record is, it stands there, it is that of the object that `find` finds, and another
+-- object's record in its place is the store with that object replaced.
+use Prim.Native.Nat.{ℕ, _+_}
+use mathlib.Core.Path.{_≡_, refl, sym, ap, _∙_}
+use mathlib.Core.List.{List, [], _∷_, _++_}
+use mathlib.Core.Bool.{Bool, true, false}
+use mathlib.Core.Option.{none, some}
+use native.Mathlib.Omega.{arith}
+use native.Mathlib.Nat.{zero-add}
+use lib.Dec.{eqb}
+use lib.ListN.{length, drop}
+use lib.Seq.{drop-at}
+use Rattle.rules.specs.declared.Found.the-variants.{At, Nothing}
+use Rattle.rules.specs.declared.Slot.{Slot}
+use Rattle.rules.specs.Basic.{if_then_else_, is-some, rising}
+use Rattle.rules.specs.Expression.{expression, expression-bytes}
+use Rattle.rules.specs.Object.{Object, object-allowed, all-allowed, expression-in}
+use Rattle.rules.specs.Layout.{head-size, record-size, size, objects-allowed, record-bytes, pack, unpack}
+use Rattle.rules.specs.Layout.{find, replaced, found-behind, found}
+use Rattle.rules.proofs.Tests.{and-left, and-right, and-both, at-place}
+use Rattle.rules.proofs.Expressions.{expression-back}
+use Rattle.rules.proofs.Inverse.{allowed-fits, record-length, in-count, pack-unpack}
+use Rattle.rules.proofs.Places.{numbers, pack-append, pack-length, replaced-bytes}
+use Rattle.primitives.specs.Bytes.{over}
+use Rattle.primitives.proofs.Over.{over-part}
+use Rattle.expression.proofs.Tests.{some-is}
+use Rattle.store.specs.Places.{object-at, Stored, with-record}
+use Rattle.store.proofs.Standing.{standing, slot-here, object-here, stands-here, stored}
+
+none-behind : (q n : ℕ) (os : List Object) → found-behind q n os ≡ Nothing → find n os ≡ none
+unfolding found-behind find
+none-behind q n [] e = refl
+none-behind q n (o ∷ os) e = go (eqb n (o .number)) refl e (none-behind (q + record-size o) n os)
+  where
+    go : (t : Bool) → eqb n (o .number) ≡ t → (if t then At q else found-behind (q + record-size o) n os) ≡ Nothing →
+        (found-behind (q + record-size o) n os ≡ Nothing → find n os ≡ none) → find n (o ∷ os) ≡ none
+    go true t e later = let z : _≡_ {A = ℕ} 0 1 = cc in absurd (omega arith)
+    go false t e later = rw t (later e)
+
+pub nowhere : (n : ℕ) (os : List Object) → found n os ≡ Nothing → find n os ≡ none
+unfolding found
+nowhere n os e = none-behind 0 n os e
+
+-- the object whose record is at p, among allowed objects whose records begin at q
+record Lies (q n p : ℕ) (os : List Object) : Type 0 where
+  before : List Object
+  object : Object
+  after : List Object
+  split : os ≡ before ++ object ∷ after
+  finds : find n os ≡ some object
+  spot : p ≡ q + size before
+  before-ok : all-allowed before ≡ true
+  object-ok : object-allowed object ≡ true
+
+lies-behind : (q n p : ℕ) (os : List Object) → all-allowed os ≡ true → found-behind q n os ≡ At p → Lies q n p os
+unfolding found-behind find size all-allowed
+lies-behind q n p [] k e = let z : _≡_ {A = ℕ} 0 1 = cc in absurd (omega arith)
+lies-behind q n p (o ∷ os) k e = go (eqb n (o .number)) refl e (lies-behind (q + record-size o) n p os (and-right (object-allowed o) (all-allowed os) k))
+  where
+    ok : object-allowed o ≡ true
+    ok = and-left (object-allowed o) (all-allowed os) k
+
+    go : (t : Bool) → eqb n (o .number) ≡ t → (if t then At q else found-behind (q + record-size o) n os) ≡ At p →
+        (found-behind (q + record-size o) n os ≡ At p → Lies (q + record-size o) n p os) → Lies q n p (o ∷ os)
+    go true t e later =
+        let r : q ≡ p = cc in
+        record { before = []; object = o; after = os; split = refl; finds = rw t; spot = omega arith; before-ok = refl; object-ok = ok }
+    go false t e later =
+        let l = later e in
+        record {
+          before = o ∷ l .before;
+          object = l .object;
+          after = l .after;
+          split = ap (λ x. o ∷ x) (l .split);
+          finds = rw t (l .finds);
+          spot = omega (arith, l .spot);
+          before-ok = and-both (object-allowed o) (all-allowed (l .before)) ok (l .before-ok);
+          object-ok = l .object-ok;
+        }
+
+module _ (n p : ℕ) (b : List ℕ) (os : List Object) (u : unpack b ≡ some os) (e : found n os ≡ At p) where
+  packed : pack os ≡ b
+  packed = pack-unpack b os u .0
+
+  all-ok : objects-allowed os ≡ true
+  all-ok = pack-unpack b os u .1
+
+  lies : Lies 0 n p os
+  unfolding found
+  lies = lies-behind 0 n p os (in-count os all-ok .1) e
+
+  laid : b ≡ pack (lies .before) ++ (record-bytes (lies .object) ++ pack (lies .after))
+  laid =
+      sym packed ∙ ap pack (lies .split) ∙ pack-append (lies .before) (lies .object ∷ lies .after) ∙
+      ap (λ x. pack (lies .before) ++ x) (unfold pack in refl)
+
+  place-is : length (pack (lies .before)) ≡ p
+  place-is = pack-length (lies .before) (lies .before-ok) ∙ sym (zero-add (size (lies .before))) ∙ sym (lies .spot)
+
+  here : drop p b ≡ record-bytes (lies .object) ++ pack (lies .after)
+  here = ap (drop p) laid ∙ drop-at (pack (lies .before)) (record-bytes (lies .object) ++ pack (lies .after)) p place-is
+
+  read-back : object-at p b ≡ lies .object
+  read-back = object-here p b (lies .object) (pack (lies .after)) (lies .object-ok) here
+
+  pub finds-it : find n os ≡ some (object-at p b)
+  finds-it = lies .finds ∙ ap (λ (x : Object). some x) (sym read-back)
+
+  pub stored-there : Stored p b
+  stored-there = stored p b (stands-here p b (lies .object) (pack (lies .after)) (lies .object-ok) here)
+
+  rises : rising (numbers (lies .before ++ lies .object ∷ lies .after)) ≡ true
+  rises = unfold objects-allowed numbers in (rw (lies .split) at (at-place _ all-ok 3))
+
+  -- another object in its place
+  pub recorded-there : (new : Object) → object-allowed new ≡ true → new .number ≡ object-at p b .number → new .maximum ≡ object-at p b .maximum →
+      with-record p new b ≡ pack (replaced new os)
+  unfolding with-record
+  recorded-there new ok k m =
+      let o = lies .object in
+      let m′ : record-size o ≡ record-size new = ap (λ x. head-size + x) (sym (m ∙ ap (λ (x : Object). x .maximum) read-back)) in
+      let k′ : new .number ≡ o .number = k ∙ ap (λ (x : Object). x .number) read-back in
+      ap (over p (record-bytes new)) laid ∙
+      over-part (pack (lies .before)) (record-bytes o) (record-bytes new) (pack (lies .after)) p place-is
+      (record-length o (allowed-fits o (lies .object-ok)) ∙ m′ ∙ sym (record-length new (allowed-fits new ok))) ∙
+      sym (ap (λ x. pack (replaced new x)) (lies .split) ∙ replaced-bytes (lies .before) o (lies .after) new k′ rises)
+
+-- the bytes in each slot of a record that stands there are an expression
+pub slot-expression : (p : ℕ) (b : List ℕ) (w : Slot) → Stored p b → is-some (expression (expression-bytes (expression-in w (object-at p b)))) ≡ true
+slot-expression p b w s =
+    let t = standing p b (s .stands) in
+    let e = expression-in w (object-at p b) in
+    some-is (expression (expression-bytes e)) e (expression-back e (slot-here p b (object-at p b) _ (t .allowed) (t .here) w .allowed))
