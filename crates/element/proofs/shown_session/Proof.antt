@@ -1,0 +1,14 @@
+use Rattle.element.proofs.Sessions.{error-shown, other-shown}
+use Rattle.element.proofs.shown_session.Statement.{statement}
+use Rattle.element.proofs.shown_session.Tie as tie
+use Rattle.element.proofs.shown_session.Reads as reads
+use Rattle.element.proofs.shown_session.Lts as lts
+
+returns : tie.Need-returns
+returns c = search error-shown
+
+returns-2 : tie.Need-returns-2
+returns-2 c = search other-shown
+
+pub shown-session-spec : {M : Type 1} → statement M
+shown-session-spec = tie.close (tie.spec returns returns-2)

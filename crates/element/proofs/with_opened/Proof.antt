@@ -1,0 +1,11 @@
+use Rattle.element.proofs.Sessions.{opened-by}
+use Rattle.element.proofs.with_opened.Statement.{statement}
+use Rattle.element.proofs.with_opened.Tie as tie
+use Rattle.element.proofs.with_opened.Reads as reads
+use Rattle.element.proofs.with_opened.Lts as lts
+
+returns : tie.Need-returns
+returns c = search opened-by
+
+pub with-opened-spec : {M : Type 1} → statement M
+with-opened-spec = tie.close (tie.spec returns)

@@ -1,0 +1,154 @@
+use Rattle.judge.proofs.Judging.{stored-get, stored-tell, stored-write, stored-erase, stored-set, open-judged, close-judged, unknown-judged}
+use Rattle.command.proofs.InForm.{long-enough}
+use Rattle.command.specs.InForm.{least}
+use lib.Dec.{lit≤}
+use borrow.Author.Needs.{needs}
+use Rattle.judge.proofs.judge_stored.Statement.{statement}
+use Rattle.judge.proofs.judge_stored.Tie as tie
+use Rattle.judge.proofs.judge_stored.Reads as reads
+use Rattle.judge.proofs.judge_stored.Lts as lts
+use Rattle.command.proofs.late.Reads as late-reads
+use Rattle.judge.proofs.judge_get.Reads as judge-get-reads
+use Rattle.judge.proofs.judge_metadata.Reads as judge-metadata-reads
+use Rattle.judge.proofs.judge_write.Reads as judge-write-reads
+use Rattle.judge.proofs.slot_holds.Reads as slot-holds-reads
+use Rattle.metadata.proofs.answer_length.Reads as answer-length-reads
+use Rattle.store.proofs.maximum_at.Reads as maximum-at-reads
+use Rattle.store.proofs.used_at.Reads as used-at-reads
+
+enum-told : tie.Need-enum-told
+enum-told c = search needs
+
+used-at-requires : tie.Need-used-at-requires
+used-at-requires c κs = search needs
+
+slot-holds-requires : tie.Need-slot-holds-requires
+slot-holds-requires c κs = search needs
+
+judge-get-requires : tie.Need-judge-get-requires
+unfolding least
+judge-get-requires c κs = search (long-enough, lit≤)
+
+enum-told-2 : tie.Need-enum-told-2
+enum-told-2 c = search needs
+
+answer-length-requires : tie.Need-answer-length-requires
+answer-length-requires c κs = search needs
+
+late-requires : tie.Need-late-requires
+late-requires c κs = search needs
+
+enum-told-3 : tie.Need-enum-told-3
+enum-told-3 c = search needs
+
+maximum-at-requires : tie.Need-maximum-at-requires
+maximum-at-requires c κs = search needs
+
+slot-holds-requires-2 : tie.Need-slot-holds-requires-2
+slot-holds-requires-2 c κs = search needs
+
+judge-write-requires : tie.Need-judge-write-requires
+unfolding least
+judge-write-requires c κs = search (long-enough, lit≤)
+
+enum-told-4 : tie.Need-enum-told-4
+enum-told-4 c = search needs
+
+maximum-at-requires-2 : tie.Need-maximum-at-requires-2
+maximum-at-requires-2 c κs = search needs
+
+slot-holds-requires-3 : tie.Need-slot-holds-requires-3
+slot-holds-requires-3 c κs = search needs
+
+judge-write-requires-2 : tie.Need-judge-write-requires-2
+unfolding least
+judge-write-requires-2 c κs = search (long-enough, lit≤)
+
+enum-told-5 : tie.Need-enum-told-5
+enum-told-5 c = search needs
+
+slot-holds-requires-4 : tie.Need-slot-holds-requires-4
+slot-holds-requires-4 c κs = search needs
+
+judge-metadata-requires : tie.Need-judge-metadata-requires
+unfolding least
+judge-metadata-requires c κs = (search needs, search (long-enough, lit≤))
+
+enum-told-6 : tie.Need-enum-told-6
+enum-told-6 c = search needs
+
+late-requires-2 : tie.Need-late-requires-2
+late-requires-2 c κs = search needs
+
+enum-told-7 : tie.Need-enum-told-7
+enum-told-7 c = search needs
+
+late-requires-3 : tie.Need-late-requires-3
+late-requires-3 c κs = search needs
+
+enum-told-8 : tie.Need-enum-told-8
+enum-told-8 c = search needs
+
+late-requires-4 : tie.Need-late-requires-4
+late-requires-4 c κs = search needs
+
+returns : tie.Need-returns
+returns c = search stored-get
+
+returns-2 : tie.Need-returns-2
+returns-2 c = search stored-tell
+
+returns-3 : tie.Need-returns-3
+returns-3 c = search stored-write
+
+returns-4 : tie.Need-returns-4
+returns-4 c = search stored-erase
+
+returns-5 : tie.Need-returns-5
+returns-5 c = search stored-set
+
+returns-6 : tie.Need-returns-6
+returns-6 c = search open-judged
+
+returns-7 : tie.Need-returns-7
+returns-7 c = search close-judged
+
+returns-8 : tie.Need-returns-8
+returns-8 c = search unknown-judged
+
+pub judge-stored-spec : {M : Type 1} → statement M
+judge-stored-spec =
+    tie.close
+    (tie.spec
+    enum-told
+    used-at-requires
+    slot-holds-requires
+    judge-get-requires
+    enum-told-2
+    answer-length-requires
+    late-requires
+    enum-told-3
+    maximum-at-requires
+    slot-holds-requires-2
+    judge-write-requires
+    enum-told-4
+    maximum-at-requires-2
+    slot-holds-requires-3
+    judge-write-requires-2
+    enum-told-5
+    slot-holds-requires-4
+    judge-metadata-requires
+    enum-told-6
+    late-requires-2
+    enum-told-7
+    late-requires-3
+    enum-told-8
+    late-requires-4
+    returns
+    returns-2
+    returns-3
+    returns-4
+    returns-5
+    returns-6
+    returns-7
+    returns-8)

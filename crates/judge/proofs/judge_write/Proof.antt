@@ -1,0 +1,29 @@
+use borrow.Author.Needs.{needs}
+use Rattle.judge.proofs.Judging.{write-by}
+use Rattle.judge.proofs.judge_write.Statement.{statement}
+use Rattle.judge.proofs.judge_write.Tie as tie
+use Rattle.judge.proofs.judge_write.Reads as reads
+use Rattle.judge.proofs.judge_write.Lts as lts
+use Rattle.command.proofs.fits.Reads as fits-reads
+use Rattle.command.proofs.late.Reads as late-reads
+use Rattle.command.proofs.offset.Reads as offset-reads
+use Rattle.command.proofs.sent_data.Reads as sent-data-reads
+
+sent-data-requires : tie.Need-sent-data-requires
+sent-data-requires c κs = search needs
+
+offset-requires : tie.Need-offset-requires
+offset-requires c κs = search needs
+
+fits-requires : tie.Need-fits-requires
+fits-requires c κs = search needs
+
+late-requires : tie.Need-late-requires
+late-requires c κs = search needs
+
+returns : tie.Need-returns
+returns c = search write-by
+
+pub judge-write-spec : {M : Type 1} → statement M
+judge-write-spec =
+    tie.close (tie.spec sent-data-requires offset-requires fits-requires late-requires returns)

@@ -1,0 +1,24 @@
+use borrow.Author.Needs.{needs}
+use Rattle.judge.proofs.Judging.{part-well-formed, part-holds}
+use Rattle.judge.proofs.slot_holds.Statement.{statement}
+use Rattle.judge.proofs.slot_holds.Tie as tie
+use Rattle.judge.proofs.slot_holds.Reads as reads
+use Rattle.judge.proofs.slot_holds.Lts as lts
+use Rattle.expression.proofs.holds.Reads as holds-reads
+use Rattle.store.proofs.lcso_at.Reads as lcso-at-reads
+use Rattle.store.proofs.slot_part.Reads as slot-part-reads
+
+slot-part-requires : tie.Need-slot-part-requires
+slot-part-requires c κs = search needs
+
+lcso-at-requires : tie.Need-lcso-at-requires
+lcso-at-requires c κs = search needs
+
+holds-requires : tie.Need-holds-requires
+holds-requires c κs = search part-well-formed
+
+returns : tie.Need-returns
+returns c = search part-holds
+
+pub slot-holds-spec : {M : Type 1} → statement M
+slot-holds-spec = tie.close (tie.spec slot-part-requires lcso-at-requires holds-requires returns)

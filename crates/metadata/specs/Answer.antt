@@ -1,0 +1,30 @@
+-- The fields of an answer, part by part.
+use Prim.Native.Nat.{ℕ, _+_, _≤_}
+use mathlib.Core.Path.{_≡_}
+use mathlib.Core.List.{List, [], _∷_}
+use lib.ListN.{length}
+use Rattle.rules.specs.declared.Slot.{Slot}
+use Rattle.rules.specs.declared.Slot.the-variants.{Change, Read, Execute}
+use Rattle.rules.specs.Basic.{high-first}
+use Rattle.rules.specs.Expression.{expression-bytes}
+use Rattle.rules.specs.Object.{Object, used, expression-in}
+use Rattle.rules.specs.Metadata.{Field, field, fields-bytes, metadata}
+
+-- LcsO, maximum and used
+unfoldable pub state-and-sizes : Object → List Field
+state-and-sizes o = field 0xC0 (o .lcso ∷ []) ∷ field 0xC4 (high-first (o .maximum)) ∷ field 0xC5 (high-first (used o)) ∷ []
+
+-- the tag of the expression in a slot
+unfoldable pub slot-tag : Slot → ℕ
+slot-tag Change = 0xD0
+slot-tag Read = 0xD1
+slot-tag Execute = 0xD3
+
+unfoldable pub slot-field : Slot → Object → Field
+slot-field s o = field (slot-tag s) (expression-bytes (expression-in s o))
+
+-- the answer has n bytes: 20 and L, those of the state and the sizes, and those of the slots; L fits one byte
+pub record Sized (o : Object) (n : ℕ) : Type 0 where
+  pub is : n ≡ length (metadata o)
+  pub parts : n ≡ 13 + length (fields-bytes (slot-field Change o ∷ [])) + length (fields-bytes (slot-field Read o ∷ [])) + length (fields-bytes (slot-field Execute o ∷ []))
+  pub most : n ≤ 257

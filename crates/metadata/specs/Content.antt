@@ -1,0 +1,22 @@
+-- What stands at a position of metadata content.
+use Prim.Native.Nat.{ℕ, _+_, _-_}
+use mathlib.Core.List.{List}
+use lib.Dec.{eqb, ltb, leb}
+use lib.ListN.{length, getD}
+use Rattle.rules.specs.Basic.{if_then_else_}
+use Rattle.rules.specs.declared.Slot.{Slot}
+use Rattle.rules.specs.declared.Slot.the-variants.{Change, Read, Execute}
+use Rattle.metadata.specs.declared.Next.{Next}
+use Rattle.metadata.specs.declared.Next.the-variants.{Field, End, Broken}
+
+-- a tag, a length and as many bytes; the end; or neither
+unfoldable pub field-at : ℕ → List ℕ → Next
+field-at at m =
+    if leb (length m) at then End else
+    if ltb (length m - at) 2 then Broken else
+    if ltb (length m - at - 2) (getD m (at + 1) 0) then Broken else
+    Field (getD m at 0) (at + 2) (at + 2 + getD m (at + 1) 0)
+
+-- the slot of an expression's tag
+unfoldable pub tag-slot : ℕ → Slot
+tag-slot t = if eqb t 0xD0 then Change else if eqb t 0xD1 then Read else Execute

@@ -1,0 +1,74 @@
+//! Writes generated cases and lists, and shows what the cases cover.
+
+use std::env;
+use std::io::{self, BufWriter, Write};
+use std::process::ExitCode;
+
+use reference::coverage::cover;
+use reference::generator::cases::{cases, Case};
+use reference::generator::lists::list;
+
+const USAGE: &str = "usage: generate cases SEED COUNT
+       generate lists SEED INDEX
+       generate coverage SEED COUNT";
+
+fn main() -> ExitCode {
+    let arguments: Vec<String> = env::args().skip(1).collect();
+    let Some((mode, seed, number)) = read_arguments(&arguments) else {
+        eprintln!("{USAGE}");
+        return ExitCode::from(2);
+    };
+    let written = match mode {
+        "cases" => write_cases(seed, number),
+        "lists" => write_list(seed, number),
+        "coverage" => return show_coverage(seed, number),
+        _ => {
+            eprintln!("{USAGE}");
+            return ExitCode::from(2);
+        }
+    };
+    match written {
+        Ok(()) => ExitCode::SUCCESS,
+        Err(error) => {
+            eprintln!("generate: {error}");
+            ExitCode::FAILURE
+        }
+    }
+}
+
+fn read_arguments(arguments: &[String]) -> Option<(&str, u64, u64)> {
+    match arguments {
+        [mode, seed, number] => Some((mode, seed.parse().ok()?, number.parse().ok()?)),
+        _ => None,
+    }
+}
+
+fn write_cases(seed: u64, count: u64) -> io::Result<()> {
+    let mut output = BufWriter::with_capacity(1 << 16, io::stdout().lock());
+    let mut write_case = |case: Case| case.item.write(&mut output);
+    cases(seed, count as usize, &mut write_case)?;
+    output.flush()
+}
+
+fn write_list(seed: u64, index: u64) -> io::Result<()> {
+    let mut output = io::stdout().lock();
+    output.write_all(&list(seed, index))?;
+    output.flush()
+}
+
+/// Prints the tables; fails if something reachable never occurred.
+fn show_coverage(seed: u64, count: u64) -> ExitCode {
+    let coverage = cover(seed, count as usize);
+    print!("{}", coverage.table());
+    for missing in coverage.missing() {
+        println!("never occurred: {missing}");
+    }
+    for error in coverage.errors() {
+        println!("error: {error}");
+    }
+    if coverage.missing().is_empty() && coverage.errors().is_empty() {
+        ExitCode::SUCCESS
+    } else {
+        ExitCode::FAILURE
+    }
+}

@@ -1,0 +1,470 @@
+//! Commands: judgment in the order of the steps, and what a granted command does.
+
+use std::ops::Range;
+
+use crate::kinds::{end_of, Length, ObjectNumber, Offset};
+use crate::metadata::{self, Changes};
+use crate::session::{may_become, Session, SessionObject, TERMINATION};
+use crate::store::{self, Record, RecordMut, Slot};
+
+pub const FLUSH: u8 = 0x80;
+
+/// Bytes before InData in a command and before OutData in a response.
+pub const HEADER: usize = 4;
+pub const LONGEST_COMMAND: usize = 1_557;
+
+pub const DONE: u8 = 0x00;
+pub const REFUSED: u8 = 0xFF;
+
+pub const GET: u8 = 0x01;
+pub const SET: u8 = 0x02;
+pub const OPEN: u8 = 0x70;
+pub const CLOSE: u8 = 0x71;
+
+/// D2 76 00 00 04, then "GenAuthAppl".
+pub const IDENTIFIER: [u8; 16] = *b"\xD2\x76\x00\x00\x04GenAuthAppl";
+
+/// The maximum, and the used count, of an object in the session.
+const SESSION_OBJECT_SIZE: usize = 1;
+
+/// What came of a command: 0 where a response stands, 1 where none does.
+#[derive(Clone, Copy, Debug, PartialEq, Eq)]
+pub struct Answer {
+    pub outcome: u8,
+    pub session: Session,
+}
+
+/// Why a command is refused.
+#[derive(Clone, Copy, Debug, PartialEq, Eq)]
+#[repr(u8)]
+pub enum Refusal {
+    NoSuchObject = 0x01,
+    UnknownParam = 0x03,
+    WrongLength = 0x04,
+    WrongValue = 0x05,
+    Malformed = 0x06,
+    NoAccess = 0x07,
+    OutOfBounds = 0x08,
+    UnknownCmd = 0x0A,
+    OutOfSequence = 0x0C,
+    NoRoom = 0x0D,
+}
+
+impl Refusal {
+    pub const ALL: [Refusal; 10] = [
+        Refusal::NoSuchObject,
+        Refusal::UnknownParam,
+        Refusal::WrongLength,
+        Refusal::WrongValue,
+        Refusal::Malformed,
+        Refusal::NoAccess,
+        Refusal::OutOfBounds,
+        Refusal::UnknownCmd,
+        Refusal::OutOfSequence,
+        Refusal::NoRoom,
+    ];
+
+    pub fn code(self) -> u8 {
+        self as u8
+    }
+}
+
+/// The rows of the command table.
+#[derive(Clone, Copy, Debug, PartialEq, Eq)]
+pub enum Row {
+    GetData,
+    GetMetadata,
+    Write,
+    EraseAndWrite,
+    SetMetadata,
+    Open,
+    Close,
+}
+
+/// What a command that no step refuses does.
+#[derive(Clone, Debug, PartialEq, Eq)]
+pub enum Action<'c> {
+    AnswerData {
+        record: Range<usize>,
+        offset: Offset,
+        length: Length,
+    },
+    AnswerSessionObject {
+        object: SessionObject,
+        length: Length,
+    },
+    AnswerMetadata {
+        record: Range<usize>,
+    },
+    Write {
+        record: Range<usize>,
+        offset: Offset,
+        bytes: &'c [u8],
+        erase: bool,
+    },
+    SetLifeCycle {
+        object: SessionObject,
+        state: u8,
+    },
+    ChangeMetadata {
+        record: Range<usize>,
+        changes: Changes<'c>,
+    },
+    Open,
+    Close,
+}
+
+/// Executes one command. The store and the room change in place.
+pub fn execute(command: &[u8], store: &mut [u8], session: Session, room: &mut [u8]) -> Answer {
+    if room.len() < HEADER {
+        return Answer {
+            outcome: 1,
+            session,
+        };
+    }
+    let session = flush(command, session);
+    let session = match judge(command, store, session, room.len()) {
+        Ok(action) => perform(action, store, session, room),
+        Err(refusal) => refuse(refusal, session, room),
+    };
+    Answer {
+        outcome: 0,
+        session,
+    }
+}
+
+/// The session after the flush bit of the command, if it is set.
+pub fn flush(command: &[u8], mut session: Session) -> Session {
+    if command.first().is_some_and(|cmd| cmd & FLUSH != 0) {
+        session.error = 0;
+    }
+    session
+}
+
+/// Steps 2 to 13, for a room of at least 4 bytes.
+pub fn judge<'c>(
+    command: &'c [u8],
+    store: &[u8],
+    session: Session,
+    room: usize,
+) -> Result<Action<'c>, Refusal> {
+    // Step 2.
+    require(
+        store::check_store(store) && session.is_valid(),
+        Refusal::Malformed,
+    )?;
+    // Step 3.
+    let frame = read_frame(command).ok_or(Refusal::WrongLength)?;
+    // Step 4.
+    require(is_known_cmd(frame.cmd), Refusal::UnknownCmd)?;
+    // Step 5.
+    require(is_in_sequence(frame.cmd, session), Refusal::OutOfSequence)?;
+    // Step 6.
+    let row = row_of(frame.cmd, frame.param).ok_or(Refusal::UnknownParam)?;
+    // Step 7.
+    require(
+        is_length_of_row(row, frame.in_data.len()),
+        Refusal::WrongLength,
+    )?;
+    // Steps 8 to 13.
+    let in_data = frame.in_data;
+    match row {
+        Row::GetData => judge_get_data(in_data, store, session, room),
+        Row::GetMetadata => judge_get_metadata(in_data, store, room),
+        Row::Write => judge_write(in_data, store, session, false),
+        Row::EraseAndWrite => judge_write(in_data, store, session, true),
+        Row::SetMetadata => judge_set_metadata(in_data, store, session),
+        Row::Open => judge_open(in_data),
+        Row::Close => Ok(Action::Close),
+    }
+}
+
+fn require(condition: bool, refusal: Refusal) -> Result<(), Refusal> {
+    if condition {
+        Ok(())
+    } else {
+        Err(refusal)
+    }
+}
+
+/// A command taken apart, the flush bit removed.
+struct Frame<'c> {
+    cmd: u8,
+    param: u8,
+    in_data: &'c [u8],
+}
+
+/// The parts of a command whose length and InLen are right.
+fn read_frame(command: &[u8]) -> Option<Frame<'_>> {
+    if command.len() < HEADER || command.len() > LONGEST_COMMAND {
+        return None;
+    }
+    let (header, in_data) = command.split_at(HEADER);
+    if number_at(header, 2) != in_data.len() {
+        return None;
+    }
+    Some(Frame {
+        cmd: header[0] & !FLUSH,
+        param: header[1],
+        in_data,
+    })
+}
+
+fn is_known_cmd(cmd: u8) -> bool {
+    matches!(cmd, GET | SET | OPEN | CLOSE)
+}
+
+fn is_in_sequence(cmd: u8, session: Session) -> bool {
+    session.lcsa != TERMINATION && (session.opened || cmd == OPEN)
+}
+
+/// The row of the command table, for a Cmd without its flush bit.
+pub fn row_of(cmd: u8, param: u8) -> Option<Row> {
+    match (cmd, param) {
+        (GET, 0x00) => Some(Row::GetData),
+        (GET, 0x01) => Some(Row::GetMetadata),
+        (SET, 0x00) => Some(Row::Write),
+        (SET, 0x40) => Some(Row::EraseAndWrite),
+        (SET, 0x01) => Some(Row::SetMetadata),
+        (OPEN, 0x00) => Some(Row::Open),
+        (CLOSE, 0x00) => Some(Row::Close),
+        _ => None,
+    }
+}
+
+fn is_length_of_row(row: Row, in_len: usize) -> bool {
+    match row {
+        Row::GetData => in_len == 6,
+        Row::GetMetadata => in_len == 2,
+        Row::Write | Row::EraseAndWrite => in_len >= 5,
+        Row::SetMetadata => in_len >= 4,
+        Row::Open => in_len == IDENTIFIER.len(),
+        Row::Close => in_len == 0,
+    }
+}
+
+/// The number at a place of a command, most significant byte first.
+fn number_at(bytes: &[u8], place: usize) -> usize {
+    usize::from(u16::from_be_bytes([bytes[place], bytes[place + 1]]))
+}
+
+/// The object named at the front of InData.
+fn object_named(in_data: &[u8]) -> ObjectNumber {
+    ObjectNumber(u16::from_be_bytes([in_data[0], in_data[1]]))
+}
+
+/// Where an object lives.
+enum Object {
+    Session(SessionObject),
+    Stored(Range<usize>),
+}
+
+/// Step 9.
+fn find_object(in_data: &[u8], store: &[u8]) -> Result<Object, Refusal> {
+    let number = object_named(in_data);
+    if let Some(object) = SessionObject::from_number(number) {
+        return Ok(Object::Session(object));
+    }
+    store::find(store, number)
+        .map(Object::Stored)
+        .ok_or(Refusal::NoSuchObject)
+}
+
+fn require_within(offset: Offset, length: Length, limit: usize) -> Result<(), Refusal> {
+    require(end_of(offset, length) <= limit, Refusal::OutOfBounds)
+}
+
+fn require_room(out_len: usize, room: usize) -> Result<(), Refusal> {
+    require(HEADER + out_len <= room, Refusal::NoRoom)
+}
+
+fn judge_get_data<'c>(
+    in_data: &[u8],
+    store: &[u8],
+    session: Session,
+    room: usize,
+) -> Result<Action<'c>, Refusal> {
+    let offset = Offset(number_at(in_data, 2));
+    let length = Length(number_at(in_data, 4));
+    match find_object(in_data, store)? {
+        Object::Session(object) => {
+            require_within(offset, length, SESSION_OBJECT_SIZE)?;
+            require_room(length.0, room)?;
+            Ok(Action::AnswerSessionObject { object, length })
+        }
+        Object::Stored(place) => {
+            let record = Record::at(store, place.clone());
+            require(record.grants(Slot::Read, session), Refusal::NoAccess)?;
+            require_within(offset, length, record.used())?;
+            require_room(length.0, room)?;
+            Ok(Action::AnswerData {
+                record: place,
+                offset,
+                length,
+            })
+        }
+    }
+}
+
+fn judge_get_metadata<'c>(
+    in_data: &[u8],
+    store: &[u8],
+    room: usize,
+) -> Result<Action<'c>, Refusal> {
+    let Object::Stored(place) = find_object(in_data, store)? else {
+        return Err(Refusal::NoAccess);
+    };
+    let record = Record::at(store, place.clone());
+    require_room(metadata::answer_length(record), room)?;
+    Ok(Action::AnswerMetadata { record: place })
+}
+
+fn judge_write<'c>(
+    in_data: &'c [u8],
+    store: &[u8],
+    session: Session,
+    erase: bool,
+) -> Result<Action<'c>, Refusal> {
+    let offset = Offset(number_at(in_data, 2));
+    let bytes = &in_data[4..];
+    match find_object(in_data, store)? {
+        Object::Session(object) => judge_session_write(object, offset, bytes, session),
+        Object::Stored(place) => {
+            let record = Record::at(store, place.clone());
+            require(record.grants(Slot::Change, session), Refusal::NoAccess)?;
+            require_within(offset, Length(bytes.len()), record.maximum())?;
+            Ok(Action::Write {
+                record: place,
+                offset,
+                bytes,
+                erase,
+            })
+        }
+    }
+}
+
+fn judge_session_write<'c>(
+    object: SessionObject,
+    offset: Offset,
+    bytes: &[u8],
+    session: Session,
+) -> Result<Action<'c>, Refusal> {
+    require(object != SessionObject::LastError, Refusal::NoAccess)?;
+    require_within(offset, Length(bytes.len()), SESSION_OBJECT_SIZE)?;
+    // Within bounds, a write has one byte at offset 0.
+    let state = bytes[0];
+    require(may_become(session.byte(object), state), Refusal::WrongValue)?;
+    Ok(Action::SetLifeCycle { object, state })
+}
+
+fn judge_set_metadata<'c>(
+    in_data: &'c [u8],
+    store: &[u8],
+    session: Session,
+) -> Result<Action<'c>, Refusal> {
+    let Object::Stored(place) = find_object(in_data, store)? else {
+        return Err(Refusal::NoAccess);
+    };
+    let record = Record::at(store, place.clone());
+    require(record.grants(Slot::Change, session), Refusal::NoAccess)?;
+    let changes =
+        metadata::read_changes(&in_data[2..], record.lcso()).ok_or(Refusal::WrongValue)?;
+    Ok(Action::ChangeMetadata {
+        record: place,
+        changes,
+    })
+}
+
+/// Step 8.
+fn judge_open<'c>(in_data: &[u8]) -> Result<Action<'c>, Refusal> {
+    require(in_data == IDENTIFIER, Refusal::WrongValue)?;
+    Ok(Action::Open)
+}
+
+/// Writes the refusal and keeps the highest error.
+fn refuse(refusal: Refusal, mut session: Session, room: &mut [u8]) -> Session {
+    room[..HEADER].copy_from_slice(&[REFUSED, 0, 0, 0]);
+    session.error = session.error.max(refusal.code());
+    session
+}
+
+/// Does what no step refused.
+fn perform(action: Action<'_>, store: &mut [u8], session: Session, room: &mut [u8]) -> Session {
+    match action {
+        Action::AnswerData {
+            record,
+            offset,
+            length,
+        } => {
+            let data = Record::at(store, record).data(offset, length);
+            out_data(room, length.0).copy_from_slice(data);
+            session
+        }
+        Action::AnswerSessionObject { object, length } => {
+            out_data(room, length.0).fill(session.byte(object));
+            after_read(object, length, session)
+        }
+        Action::AnswerMetadata { record } => {
+            let record = Record::at(store, record);
+            let out = out_data(room, metadata::answer_length(record));
+            metadata::write_answer(record, out);
+            session
+        }
+        Action::Write {
+            record,
+            offset,
+            bytes,
+            erase,
+        } => {
+            write(RecordMut::at(store, record), offset, bytes, erase);
+            answer_nothing(room, session)
+        }
+        Action::SetLifeCycle { object, state } => {
+            answer_nothing(room, session.with_byte(object, state))
+        }
+        Action::ChangeMetadata { record, changes } => {
+            changes.store(&mut RecordMut::at(store, record));
+            answer_nothing(room, session)
+        }
+        Action::Open => answer_nothing(room, with_opened(session, true)),
+        Action::Close => answer_nothing(room, with_opened(session, false)),
+    }
+}
+
+/// Writes the header of a response that is done, and lends the part for OutData.
+fn out_data(room: &mut [u8], out_len: usize) -> &mut [u8] {
+    let [high, low] = (out_len as u16).to_be_bytes();
+    room[..HEADER].copy_from_slice(&[DONE, 0, high, low]);
+    &mut room[HEADER..HEADER + out_len]
+}
+
+fn answer_nothing(room: &mut [u8], session: Session) -> Session {
+    out_data(room, 0);
+    session
+}
+
+/// A get that returns the last error then sets it to 0.
+fn after_read(object: SessionObject, length: Length, session: Session) -> Session {
+    if object == SessionObject::LastError && length.0 == SESSION_OBJECT_SIZE {
+        session.with_byte(object, 0)
+    } else {
+        session
+    }
+}
+
+fn write(mut record: RecordMut<'_>, offset: Offset, bytes: &[u8], erase: bool) {
+    let end = end_of(offset, Length(bytes.len()));
+    let used = if erase {
+        record.data().fill(0);
+        end
+    } else {
+        record.used().max(end)
+    };
+    record.data()[offset.0..end].copy_from_slice(bytes);
+    record.set_used(used);
+}
+
+fn with_opened(mut session: Session, opened: bool) -> Session {
+    session.opened = opened;
+    session
+}

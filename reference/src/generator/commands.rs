@@ -1,0 +1,533 @@
+//! Commands of every row and their rooms, aimed at the present store and session.
+
+use crate::engine::{Row, CLOSE, FLUSH, GET, HEADER, IDENTIFIER, LONGEST_COMMAND, OPEN, SET};
+use crate::generator::contents::Content;
+use crate::generator::random::Random;
+use crate::generator::stores::{not_a_state, object_number};
+use crate::metadata;
+use crate::program::ROOM;
+use crate::replay::State;
+use crate::session::{SessionObject, STATES, TERMINATION};
+use crate::store::{self, Record, Slot};
+
+/// A generated command with its room.
+#[derive(Clone, Debug)]
+pub struct Generated {
+    pub command: Vec<u8>,
+    pub room: Vec<u8>,
+    /// For a metadata write at a stored object: what it sends.
+    pub content: Option<Content>,
+}
+
+/// The most bytes that a write can bring.
+const LONGEST_WRITE: usize = LONGEST_COMMAND - HEADER - 4;
+
+/// The kinds of commands to choose from.
+#[derive(Clone, Copy)]
+enum Kind {
+    Row(Row),
+    UnknownCmd,
+    UnknownParam,
+    Short,
+}
+
+const KINDS: [(usize, Kind); 10] = [
+    (24, Kind::Row(Row::GetData)),
+    (9, Kind::Row(Row::GetMetadata)),
+    (20, Kind::Row(Row::Write)),
+    (11, Kind::Row(Row::EraseAndWrite)),
+    (22, Kind::Row(Row::SetMetadata)),
+    (4, Kind::Row(Row::Open)),
+    (2, Kind::Row(Row::Close)),
+    (3, Kind::UnknownCmd),
+    (3, Kind::UnknownParam),
+    (2, Kind::Short),
+];
+
+/// Makes commands; `turn` leads through the kinds of metadata content.
+pub struct Commands {
+    contents: Vec<Content>,
+    turn: usize,
+}
+
+impl Default for Commands {
+    fn default() -> Self {
+        Self::new()
+    }
+}
+
+impl Commands {
+    pub fn new() -> Commands {
+        Commands {
+            contents: Content::all(),
+            turn: 0,
+        }
+    }
+
+    /// A command for the present state, with its room.
+    /// The store is looked at only if it is well formed.
+    pub fn make(&mut self, state: &State, random: &mut Random) -> Generated {
+        let view = View::new(state);
+        let kind = pick_kind(state, random);
+        let (mut command, content, out_len) = self.make_kind(kind, &view, random);
+        if random.chance(8) {
+            wrong_frame(&mut command, random);
+        }
+        if let Some(cmd) = command.first_mut().filter(|_| random.chance(18)) {
+            *cmd |= FLUSH;
+        }
+        let size = room_size(out_len, random);
+        let room = match random.chance(50) {
+            true => vec![0xA5; size],
+            false => random.bytes(size),
+        };
+        Generated {
+            command,
+            room,
+            content,
+        }
+    }
+
+    /// The command's bytes, the kind of content, and the OutLen if it is done.
+    fn make_kind(
+        &mut self,
+        kind: Kind,
+        view: &View<'_>,
+        random: &mut Random,
+    ) -> (Vec<u8>, Option<Content>, usize) {
+        match kind {
+            Kind::Row(row) => self.make_row(row, view, random),
+            Kind::UnknownCmd => (unknown_cmd(random), None, 0),
+            Kind::UnknownParam => (unknown_param(view, random), None, 0),
+            Kind::Short => {
+                let whole = get_metadata(view.any_number(random));
+                (whole[..random.below(HEADER)].to_vec(), None, 0)
+            }
+        }
+    }
+
+    fn make_row(
+        &mut self,
+        row: Row,
+        view: &View<'_>,
+        random: &mut Random,
+    ) -> (Vec<u8>, Option<Content>, usize) {
+        match row {
+            Row::GetData => {
+                let (command, out_len) = get_data(view, random);
+                (command, None, out_len)
+            }
+            Row::GetMetadata => {
+                let target = view.target(random);
+                let out_len = match target {
+                    Target::Stored(record) => metadata::answer_length(record),
+                    _ => 30,
+                };
+                (get_metadata(target.number()), None, out_len)
+            }
+            Row::Write => (write(0x00, view, random), None, 0),
+            Row::EraseAndWrite => (write(0x40, view, random), None, 0),
+            Row::SetMetadata => {
+                let (command, content) = self.set_metadata(view, random);
+                (command, content, 0)
+            }
+            Row::Open => (open(random), None, 0),
+            Row::Close => (framed(CLOSE, 0x00, &[]), None, 0),
+        }
+    }
+
+    fn set_metadata(&mut self, view: &View<'_>, random: &mut Random) -> (Vec<u8>, Option<Content>) {
+        let target = view.target_to_change(random);
+        let mut in_data = target.number().to_be_bytes().to_vec();
+        let content = match target {
+            Target::Stored(record) => {
+                let content = self.next_content(record, random);
+                in_data.extend(content.make(record, random));
+                Some(content)
+            }
+            _ => {
+                in_data.extend([0x20, 0x03, 0xC0, 0x01, random.pick(&STATES)]);
+                None
+            }
+        };
+        (framed(SET, 0x01, &in_data), content)
+    }
+
+    /// Good content in half of the cases, each bad kind in turn otherwise.
+    fn next_content(&mut self, record: Record<'_>, random: &mut Random) -> Content {
+        if random.chance(45) {
+            return Content::Good;
+        }
+        // A life cycle in creation has no state below it.
+        if record.lcso() > STATES[0] && random.chance(10) {
+            return Content::LifeCycleFalls;
+        }
+        self.turn = (self.turn + 1) % self.contents.len();
+        self.contents[self.turn]
+    }
+}
+
+/// A kind of command; while step 5 refuses most, more of those it judges apart.
+fn pick_kind(state: &State, random: &mut Random) -> Kind {
+    let session = state.session;
+    if session.opened && session.lcsa != TERMINATION {
+        return random.pick_weighted(&KINDS);
+    }
+    match random.below(100) {
+        0..=49 => Kind::Row(Row::Open),
+        50..=56 => Kind::UnknownCmd,
+        57..=63 => Kind::UnknownParam,
+        64..=68 => Kind::Row(Row::Close),
+        _ => random.pick_weighted(&KINDS),
+    }
+}
+
+/// The objects that a command can name.
+enum Target<'s> {
+    Stored(Record<'s>),
+    Session(SessionObject),
+    Absent(u16),
+}
+
+impl Target<'_> {
+    fn number(&self) -> u16 {
+        match self {
+            Target::Stored(record) => record.object().0,
+            Target::Session(object) => object.number().0,
+            Target::Absent(number) => *number,
+        }
+    }
+}
+
+/// The records of the present state, none if the store is malformed.
+struct View<'s> {
+    state: &'s State,
+    records: Vec<Record<'s>>,
+}
+
+impl<'s> View<'s> {
+    fn new(state: &'s State) -> View<'s> {
+        let records = match store::check_store(&state.store) {
+            true => store::records(&state.store).map(|found| found.1).collect(),
+            false => Vec::new(),
+        };
+        View { state, records }
+    }
+
+    fn target(&self, random: &mut Random) -> Target<'s> {
+        match random.below(100) {
+            0..=79 if !self.records.is_empty() => Target::Stored(random.pick(&self.records)),
+            80..=91 => Target::Session(random.pick(&SessionObject::ALL)),
+            _ => self.absent(random),
+        }
+    }
+
+    /// A target whose data can often be changed.
+    fn target_to_change(&self, random: &mut Random) -> Target<'s> {
+        let granted = |record: &Record<'_>| record.grants(Slot::Change, self.state.session);
+        self.preferred_target(granted, random)
+    }
+
+    /// A target whose data can often be read.
+    fn target_to_read(&self, random: &mut Random) -> Target<'s> {
+        let granted = |record: &Record<'_>| record.grants(Slot::Read, self.state.session);
+        self.preferred_target(granted, random)
+    }
+
+    fn preferred_target(
+        &self,
+        preferred: impl Fn(&Record<'_>) -> bool,
+        random: &mut Random,
+    ) -> Target<'s> {
+        for _ in 0..2 {
+            match self.target(random) {
+                Target::Stored(record) if !preferred(&record) => {}
+                target => return target,
+            }
+        }
+        self.target(random)
+    }
+
+    /// A number next to a stored one, or any; it may still be stored.
+    fn absent(&self, random: &mut Random) -> Target<'s> {
+        if self.records.is_empty() || random.chance(40) {
+            return Target::Absent(object_number(random));
+        }
+        let near = random.pick(&self.records).object().0;
+        let number = match random.below(3) {
+            0 => near.wrapping_add(1),
+            1 => near.wrapping_sub(1),
+            _ => near.swap_bytes(),
+        };
+        Target::Absent(number)
+    }
+
+    fn any_number(&self, random: &mut Random) -> u16 {
+        self.target(random).number()
+    }
+}
+
+/// A command whose InLen counts the bytes of InData.
+pub fn framed(cmd: u8, param: u8, in_data: &[u8]) -> Vec<u8> {
+    let mut command = vec![cmd, param];
+    command.extend_from_slice(&(in_data.len() as u16).to_be_bytes());
+    command.extend_from_slice(in_data);
+    command
+}
+
+/// The command that opens the application.
+pub fn right_open() -> Vec<u8> {
+    framed(OPEN, 0x00, &IDENTIFIER)
+}
+
+fn open(random: &mut Random) -> Vec<u8> {
+    let mut identifier = IDENTIFIER;
+    if random.chance(20) {
+        let place = random.below(identifier.len());
+        identifier[place] ^= 1 << random.below(8);
+    }
+    framed(OPEN, 0x00, &identifier)
+}
+
+fn get_metadata(number: u16) -> Vec<u8> {
+    framed(GET, 0x01, &number.to_be_bytes())
+}
+
+/// A get of data and its length.
+fn get_data(view: &View<'_>, random: &mut Random) -> (Vec<u8>, usize) {
+    let target = view.target_to_read(random);
+    let (used, maximum) = match target {
+        Target::Stored(record) => (record.used(), record.maximum()),
+        Target::Session(_) => (1, 1),
+        Target::Absent(_) => (10, 20),
+    };
+    let (offset, length) = match random.chance(65) {
+        true => inner_part(used, random),
+        false => {
+            let offset = boundary(used, maximum, random);
+            (offset, boundary_length(offset, used, maximum, random))
+        }
+    };
+    let mut in_data = target.number().to_be_bytes().to_vec();
+    in_data.extend_from_slice(&(offset as u16).to_be_bytes());
+    in_data.extend_from_slice(&(length as u16).to_be_bytes());
+    (framed(GET, 0x00, &in_data), length)
+}
+
+/// An offset and a length within `limit` bytes.
+fn inner_part(limit: usize, random: &mut Random) -> (usize, usize) {
+    let offset = match random.below(10) {
+        0..=4 => 0,
+        5 => limit,
+        6 | 7 => limit.saturating_sub(1),
+        _ => random.between(0, limit),
+    };
+    let left = limit - offset;
+    let length = match random.below(10) {
+        0 => 0,
+        1 | 2 => left.min(1),
+        3..=5 => left,
+        _ => random.between(0, left),
+    };
+    (offset, length)
+}
+
+/// A number at a boundary.
+fn boundary(used: usize, maximum: usize, random: &mut Random) -> usize {
+    random.pick(&[
+        0,
+        1,
+        used.saturating_sub(1),
+        used,
+        used + 1,
+        maximum - 1,
+        maximum,
+        maximum + 1,
+        65_535,
+        65_536 - maximum,
+    ])
+}
+
+/// A length that ends at a boundary, or is one.
+fn boundary_length(offset: usize, used: usize, maximum: usize, random: &mut Random) -> usize {
+    if random.chance(30) {
+        return boundary(used, maximum, random);
+    }
+    let end = random.pick(&[
+        used,
+        used + 1,
+        used.saturating_sub(1),
+        maximum,
+        maximum + 1,
+        maximum - 1,
+        // Sums that wrap in 16 bits.
+        65_536,
+        65_536 + used,
+    ]);
+    end.saturating_sub(offset).min(65_535)
+}
+
+fn write(param: u8, view: &View<'_>, random: &mut Random) -> Vec<u8> {
+    let target = view.target_to_change(random);
+    let mut in_data = target.number().to_be_bytes().to_vec();
+    let (offset, bytes) = match target {
+        Target::Stored(record) => stored_write(record.used(), record.maximum(), random),
+        Target::Session(object) => session_write(view.state, object, random),
+        Target::Absent(_) => stored_write(10, 20, random),
+    };
+    in_data.extend_from_slice(&(offset as u16).to_be_bytes());
+    in_data.extend_from_slice(&bytes);
+    framed(SET, param, &in_data)
+}
+
+fn stored_write(used: usize, maximum: usize, random: &mut Random) -> (usize, Vec<u8>) {
+    let (offset, length) = match random.chance(65) {
+        true => {
+            let offset = match random.below(5) {
+                0 => 0,
+                1 => used.min(maximum - 1),
+                2 => maximum - 1,
+                3 => (used + 3).min(maximum - 1),
+                _ => random.below(maximum),
+            };
+            let left = maximum - offset;
+            let length = match random.below(4) {
+                0 => 1,
+                1 => left,
+                2 => random.between(1, left),
+                _ => random.between(1, left.min(8)),
+            };
+            (offset, length)
+        }
+        false => {
+            let offset = boundary(used, maximum, random);
+            let length = match random.chance(8) {
+                true => random.pick(&[LONGEST_WRITE, LONGEST_WRITE + 1]),
+                false => boundary_length(offset, used, maximum, random).clamp(1, LONGEST_WRITE),
+            };
+            (offset, length)
+        }
+    };
+    let bytes = match random.chance(10) {
+        true => vec![0; length],
+        false => random.bytes(length),
+    };
+    (offset, bytes)
+}
+
+fn session_write(state: &State, object: SessionObject, random: &mut Random) -> (usize, Vec<u8>) {
+    let present = state.session.byte(object);
+    let value = match random.below(10) {
+        0..=3 => present,
+        4..=6 => random.pick(&STATES[..3]),
+        7 => random.pick(&STATES),
+        _ => not_a_state(random),
+    };
+    match random.below(10) {
+        0 => (1, vec![value]),
+        1 => (0, vec![value; 2]),
+        2 => (random.pick(&[0, 2, 65_535]), random.bytes(3)),
+        _ => (0, vec![value]),
+    }
+}
+
+/// A command whose Cmd is not in the table.
+fn unknown_cmd(random: &mut Random) -> Vec<u8> {
+    let cmd = match random.chance(60) {
+        true => random.pick(&[0x00, 0x03, 0x0C, 0x30, 0x41, 0x6F, 0x72, 0x7F]),
+        false => loop {
+            let cmd = random.byte() & !FLUSH;
+            if ![GET, SET, OPEN, CLOSE].contains(&cmd) {
+                break cmd;
+            }
+        },
+    };
+    let count = random.pick(&[0, 2, 5, 6, 16]);
+    framed(
+        cmd,
+        random.pick(&[0x00, 0x01, 0x40, 0xFF]),
+        &random.bytes(count),
+    )
+}
+
+/// A command whose Param is not in the table for its Cmd.
+fn unknown_param(view: &View<'_>, random: &mut Random) -> Vec<u8> {
+    let cmd = random.pick(&[GET, GET, SET, SET, OPEN, CLOSE]);
+    let known: &[u8] = match cmd {
+        GET => &[0x00, 0x01],
+        SET => &[0x00, 0x01, 0x40],
+        _ => &[0x00],
+    };
+    let candidate = random.pick(&[0x01, 0x02, 0x40, 0x41, 0x80, 0xC0, 0xFF]);
+    let param = match known.contains(&candidate) {
+        true => random.byte_outside(known),
+        false => candidate,
+    };
+    let mut in_data = match cmd {
+        OPEN => IDENTIFIER.to_vec(),
+        CLOSE => Vec::new(),
+        _ => view.any_number(random).to_be_bytes().to_vec(),
+    };
+    if cmd == GET || cmd == SET {
+        let count = random.pick(&[0, 0, 3, 4, 5]);
+        in_data.extend(random.bytes(count));
+    }
+    framed(cmd, param, &in_data)
+}
+
+/// Makes the length, or InLen, of a command wrong in some way.
+fn wrong_frame(command: &mut Vec<u8>, random: &mut Random) {
+    if command.len() < HEADER {
+        return;
+    }
+    let in_len = (command.len() - HEADER) as u16;
+    match random.below(8) {
+        // InLen off by one.
+        0 => put_in_len(command, in_len.wrapping_add(1)),
+        1 => put_in_len(command, in_len.wrapping_sub(1)),
+        // Bytes cut off or added, InLen as before.
+        2 => command.truncate(random.below(command.len())),
+        3 => command.push(random.byte()),
+        // Bytes cut off or added, InLen as well: wrong for most rows.
+        4 => {
+            let in_len = random.pick(&[0, 1, 2, 3, 4, 5, 6, 7, 15, 16, 17]);
+            resize(command, HEADER + in_len, random);
+        }
+        5 => {
+            let length = random.between(HEADER, command.len() + 1);
+            resize(command, length, random);
+        }
+        // The longest command, and one more byte.
+        6 => resize(command, LONGEST_COMMAND, random),
+        _ => {
+            let length = random.pick(&[LONGEST_COMMAND + 1, LONGEST_COMMAND + 1, 2_000]);
+            resize(command, length, random);
+        }
+    }
+}
+
+/// Gives the command another length and the InLen to it.
+fn resize(command: &mut Vec<u8>, length: usize, random: &mut Random) {
+    let added = length.saturating_sub(command.len());
+    command.extend(random.bytes(added));
+    command.truncate(length);
+    put_in_len(command, (length - HEADER) as u16);
+}
+
+fn put_in_len(command: &mut [u8], in_len: u16) {
+    command[2..HEADER].copy_from_slice(&in_len.to_be_bytes());
+}
+
+/// A room that fits exactly, is too small, or is larger.
+fn room_size(out_len: usize, random: &mut Random) -> usize {
+    let exact = (HEADER + out_len).min(ROOM);
+    match random.below(100) {
+        0..=4 => random.below(HEADER),
+        5..=9 => HEADER,
+        10..=34 => exact,
+        35..=41 => HEADER.max(exact - 1),
+        42..=44 => random.between(HEADER - 1, exact),
+        45..=54 => ROOM,
+        _ => exact + random.between(1, 24),
+    }
+}

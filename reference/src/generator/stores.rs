@@ -1,0 +1,496 @@
+//! Stores: well formed ones, and ones that break a single clause.
+
+use crate::engine;
+use crate::generator::expressions::{expression, BadExpression};
+use crate::generator::random::Random;
+use crate::kinds::ObjectNumber;
+use crate::session::{Session, SessionObject, STATES};
+use crate::store::{
+    Fault, Slot, DATA, KIND, LARGEST_MAXIMUM, LARGEST_STORE, LCSO, LENGTH, MOST_RECORDS,
+    OBJECT_KIND, SLOT_SIZE, ZERO,
+};
+
+/// The smallest record: one byte of data.
+const SMALLEST_RECORD: usize = DATA + 1;
+
+/// An object before it is put into a store.
+#[derive(Clone, Debug)]
+struct Object {
+    number: u16,
+    maximum: usize,
+    lcso: u8,
+    expressions: [Vec<u8>; 3],
+    /// The used bytes.
+    data: Vec<u8>,
+}
+
+impl Object {
+    fn new(number: u16, maximum: usize, random: &mut Random) -> Object {
+        let used = match random.below(5) {
+            0 => 0,
+            1 => maximum,
+            2 => maximum.min(random.between(1, 20)),
+            _ => random.between(0, maximum),
+        };
+        let change = match random.chance(40) {
+            true => vec![crate::expression::ALWAYS],
+            false => expression(random),
+        };
+        Object {
+            number,
+            maximum,
+            lcso: random.pick(&STATES),
+            expressions: [change, expression(random), expression(random)],
+            data: random.bytes(used),
+        }
+    }
+
+    fn size(&self) -> usize {
+        DATA + self.maximum
+    }
+
+    fn put_into(&self, store: &mut Vec<u8>) {
+        let start = store.len();
+        for number in [
+            self.size() as u16,
+            OBJECT_KIND,
+            self.number,
+            self.maximum as u16,
+            self.data.len() as u16,
+        ] {
+            store.extend_from_slice(&number.to_le_bytes());
+        }
+        store.extend_from_slice(&[self.lcso, 0]);
+        for (slot, bytes) in Slot::ALL.into_iter().zip(&self.expressions) {
+            store.push(bytes.len() as u8);
+            store.extend(bytes.iter().take(SLOT_SIZE - 1));
+            store.resize(start + slot.place().end, 0);
+        }
+        store.extend_from_slice(&self.data);
+        store.resize(start + self.size(), 0);
+    }
+}
+
+fn join(objects: &[Object]) -> Vec<u8> {
+    let mut store = Vec::new();
+    for object in objects {
+        object.put_into(&mut store);
+    }
+    store
+}
+
+/// A well-formed store of 1 to 32 records.
+pub fn valid_store(random: &mut Random) -> Vec<u8> {
+    join(&valid_objects(random))
+}
+
+fn valid_objects(random: &mut Random) -> Vec<Object> {
+    let sizes = match random.below(20) {
+        0 => full_store_sizes(random),
+        _ => store_sizes(random),
+    };
+    let numbers = object_numbers(sizes.len(), random);
+    make_objects(&numbers, &sizes, random)
+}
+
+fn make_objects(numbers: &[u16], sizes: &[usize], random: &mut Random) -> Vec<Object> {
+    numbers
+        .iter()
+        .zip(sizes)
+        .map(|(&number, &size)| Object::new(number, size, random))
+        .collect()
+}
+
+/// Maximums of records that stay within the largest store.
+fn store_sizes(random: &mut Random) -> Vec<usize> {
+    let count = match random.below(10) {
+        0 => 1,
+        1 => MOST_RECORDS,
+        2 => random.between(2, MOST_RECORDS - 1),
+        _ => random.between(2, 8),
+    };
+    let mut left = LARGEST_STORE;
+    let mut sizes = Vec::new();
+    for place in 0..count {
+        let reserved = (count - place - 1) * SMALLEST_RECORD;
+        let limit = (left - reserved - DATA).min(LARGEST_MAXIMUM);
+        let size = match random.below(10) {
+            0 => 1,
+            1 => LARGEST_MAXIMUM,
+            2 => random.between(LARGEST_MAXIMUM - 3, LARGEST_MAXIMUM),
+            3 => random.between(1, LARGEST_MAXIMUM),
+            4 | 5 => random.between(1, 140),
+            _ => random.between(1, 32),
+        };
+        sizes.push(size.min(limit));
+        left -= DATA + sizes[place];
+    }
+    sizes
+}
+
+/// Maximums of records that fill the largest store exactly.
+fn full_store_sizes(random: &mut Random) -> Vec<usize> {
+    let count = random.between(11, MOST_RECORDS);
+    sizes_of_total(count, LARGEST_STORE, random)
+}
+
+/// Maximums of `count` records of `total` bytes together.
+fn sizes_of_total(count: usize, total: usize, random: &mut Random) -> Vec<usize> {
+    let mut sizes = vec![1; count];
+    let mut left = total - count * SMALLEST_RECORD;
+    while left > 0 {
+        let place = random.below(count);
+        let most = left.min(LARGEST_MAXIMUM - sizes[place]);
+        let more = random.between(0, most);
+        sizes[place] += more;
+        left -= more;
+    }
+    sizes
+}
+
+/// Rising object numbers, none of them of the session.
+fn object_numbers(count: usize, random: &mut Random) -> Vec<u16> {
+    let mut numbers = Vec::new();
+    while numbers.len() < count {
+        let number = object_number(random);
+        if !is_session_number(number) && !numbers.contains(&number) {
+            numbers.push(number);
+        }
+    }
+    numbers.sort_unstable();
+    numbers
+}
+
+fn is_session_number(number: u16) -> bool {
+    SessionObject::from_number(ObjectNumber(number)).is_some()
+}
+
+/// A number near the named ones, at an end, or anywhere.
+pub fn object_number(random: &mut Random) -> u16 {
+    match random.below(6) {
+        0 => random.pick(&[0x0000, 0x0001, 0x00FF, 0x0100, 0xFF00, 0xFFFE, 0xFFFF]),
+        1 => random.between(0xE0BE, 0xE0C3) as u16,
+        2 => random.between(0xF1BE, 0xF1C5) as u16,
+        3 => random.between(0xF1D0, 0xF1E3) as u16,
+        4 => random.between(0, 40) as u16,
+        _ => random.number() as u16,
+    }
+}
+
+/// The ways in which a store is malformed.
+#[derive(Clone, Copy, Debug, PartialEq, Eq)]
+pub enum Damage {
+    NoRecord,
+    ThirtyThreeRecords,
+    TooLong,
+    CutShort,
+    TrailingBytes,
+    RecordLength,
+    Kind,
+    SessionObject(SessionObject),
+    MaximumZero,
+    MaximumAbove,
+    UsedAboveMaximum,
+    LifeCycle,
+    ZeroByte,
+    Expression(Slot, BadExpression),
+    SlotLength(Slot),
+    SlotTail(Slot),
+    DataTail,
+    NumbersEqual,
+    NumbersFalling,
+}
+
+impl Damage {
+    pub fn all() -> Vec<Damage> {
+        let mut all = vec![
+            Damage::NoRecord,
+            Damage::ThirtyThreeRecords,
+            Damage::TooLong,
+            Damage::CutShort,
+            Damage::TrailingBytes,
+            Damage::RecordLength,
+            Damage::Kind,
+            Damage::MaximumZero,
+            Damage::MaximumAbove,
+            Damage::UsedAboveMaximum,
+            Damage::LifeCycle,
+            Damage::ZeroByte,
+            Damage::DataTail,
+            Damage::NumbersEqual,
+            Damage::NumbersFalling,
+        ];
+        all.extend(SessionObject::ALL.map(Damage::SessionObject));
+        all.extend(Slot::ALL.map(Damage::SlotLength));
+        all.extend(Slot::ALL.map(Damage::SlotTail));
+        for slot in Slot::ALL {
+            all.extend(BadExpression::ALL.map(|bad| Damage::Expression(slot, bad)));
+        }
+        all
+    }
+
+    /// The clause that the damage breaks.
+    pub fn fault(self) -> Fault {
+        match self {
+            Damage::NoRecord => Fault::NoRecord,
+            Damage::ThirtyThreeRecords => Fault::TooManyRecords,
+            Damage::TooLong => Fault::TooLong,
+            Damage::CutShort | Damage::TrailingBytes => Fault::CutShort,
+            Damage::RecordLength => Fault::RecordLength,
+            Damage::Kind => Fault::Kind,
+            Damage::SessionObject(_) => Fault::SessionObject,
+            Damage::MaximumZero | Damage::MaximumAbove => Fault::Maximum,
+            Damage::UsedAboveMaximum => Fault::Used,
+            Damage::LifeCycle => Fault::LifeCycle,
+            Damage::ZeroByte => Fault::ZeroByte,
+            Damage::Expression(slot, _) | Damage::SlotLength(slot) => Fault::Expression(slot),
+            Damage::SlotTail(slot) => Fault::SlotTail(slot),
+            Damage::DataTail => Fault::DataTail,
+            Damage::NumbersEqual | Damage::NumbersFalling => Fault::Order,
+        }
+    }
+
+    /// A store that breaks this clause only.
+    pub fn make(self, random: &mut Random) -> Vec<u8> {
+        match self {
+            Damage::NoRecord => Vec::new(),
+            Damage::ThirtyThreeRecords => thirty_three_records(random),
+            Damage::TooLong => too_long(random),
+            Damage::CutShort => cut_short(random),
+            Damage::TrailingBytes => trailing_bytes(random),
+            _ => self.damage_object(random),
+        }
+    }
+
+    /// A store in which one object is damaged.
+    fn damage_object(self, random: &mut Random) -> Vec<u8> {
+        let mut objects = smaller_objects(random);
+        let place = random.below(objects.len());
+        match self {
+            Damage::SessionObject(object) => {
+                objects[place].number = object.number().0;
+                objects.sort_by_key(|object| object.number);
+                return join(&objects);
+            }
+            Damage::NumbersEqual => {
+                let twin = Object::new(objects[place].number, 9, random);
+                objects.insert(place + 1, twin);
+                return join(&objects);
+            }
+            Damage::NumbersFalling => {
+                while objects.len() < 2 {
+                    objects = smaller_objects(random);
+                }
+                let place = random.below(objects.len() - 1);
+                objects.swap(place, place + 1);
+                return join(&objects);
+            }
+            _ => self.damage_spec(&mut objects[place], random),
+        }
+        let start: usize = objects[..place].iter().map(Object::size).sum();
+        let mut store = join(&objects);
+        self.damage_bytes(&mut store[start..], &objects[place], random);
+        store
+    }
+
+    /// Damage that also moves what comes after, and room for damage of bytes.
+    fn damage_spec(self, object: &mut Object, random: &mut Random) {
+        match self {
+            Damage::MaximumZero => {
+                object.maximum = 0;
+                object.data.clear();
+            }
+            Damage::MaximumAbove => {
+                object.maximum = LARGEST_MAXIMUM + 1;
+            }
+            Damage::UsedAboveMaximum => {
+                object.data = vec![0; object.maximum];
+            }
+            Damage::DataTail => {
+                object.data.truncate(random.below(object.maximum));
+            }
+            Damage::Expression(slot, bad) => {
+                object.expressions[slot as usize] = bad.make(random);
+            }
+            Damage::SlotTail(slot) => {
+                let short = &mut object.expressions[slot as usize];
+                while short.len() > 23 {
+                    *short = expression(random);
+                }
+            }
+            _ => {}
+        }
+    }
+
+    /// Damage in the bytes of the record at the front of `bytes`.
+    fn damage_bytes(self, bytes: &mut [u8], object: &Object, random: &mut Random) {
+        match self {
+            Damage::RecordLength => {
+                let size = object.size() as u16;
+                let wrong = match random.below(5) {
+                    0 => size - 1,
+                    1 => size + 1,
+                    2 => size.swap_bytes(),
+                    3 => object.maximum as u16,
+                    _ => random.number() as u16,
+                };
+                let wrong = if wrong == size { 0 } else { wrong };
+                put_number(bytes, LENGTH, wrong);
+            }
+            Damage::Kind => {
+                let kind = random.pick(&[0x0000, 0x0002, 0x0100, 0x0101, 0xFFFF]);
+                put_number(bytes, KIND, kind);
+            }
+            Damage::UsedAboveMaximum => {
+                let used = match random.below(3) {
+                    0 => object.maximum + 1,
+                    1 => 0xFFFF,
+                    _ => random.between(object.maximum + 1, 0xFFFF),
+                };
+                put_number(bytes, crate::store::USED, used as u16);
+            }
+            Damage::LifeCycle => {
+                bytes[LCSO] = match random.chance(50) {
+                    true => random.pick(&[0x00, 0x02, 0x04, 0x08, 0x0E, 0x10, 0x1F, 0xFF]),
+                    false => random.byte_outside(&STATES),
+                };
+            }
+            Damage::ZeroByte => bytes[ZERO] = random.nonzero_byte(),
+            Damage::SlotLength(slot) => {
+                bytes[slot.place().start] = match random.chance(50) {
+                    true => random.pick(&[28, 31, 35, 255]),
+                    false => random.between(28, 255) as u8,
+                };
+            }
+            Damage::Expression(slot, _) => {
+                // Eight conditions may reach past the slot.
+                let made = &object.expressions[slot as usize];
+                if made.len() >= SLOT_SIZE && random.chance(50) {
+                    let start = slot.place().start + 1;
+                    for (byte, made) in bytes[start..].iter_mut().zip(made) {
+                        *byte = *made;
+                    }
+                }
+            }
+            Damage::SlotTail(slot) => {
+                let place = slot.place();
+                let first = place.start + 1 + object.expressions[slot as usize].len();
+                let dirty = match random.below(3) {
+                    0 => first,
+                    1 => place.end - 1,
+                    _ => random.between(first, place.end - 1),
+                };
+                bytes[dirty] = random.nonzero_byte();
+            }
+            Damage::DataTail => {
+                let first = DATA + object.data.len();
+                let last = object.size() - 1;
+                let dirty = match random.below(3) {
+                    0 => first,
+                    1 => last,
+                    _ => random.between(first, last),
+                };
+                bytes[dirty] = random.nonzero_byte();
+            }
+            _ => {}
+        }
+    }
+}
+
+fn put_number(bytes: &mut [u8], place: usize, number: u16) {
+    bytes[place..place + 2].copy_from_slice(&number.to_le_bytes());
+}
+
+/// Objects of a store that can grow by one record of the largest size.
+fn smaller_objects(random: &mut Random) -> Vec<Object> {
+    loop {
+        let objects = valid_objects(random);
+        let size: usize = objects.iter().map(Object::size).sum();
+        if objects.len() < MOST_RECORDS && size + 1_600 <= LARGEST_STORE {
+            return objects;
+        }
+    }
+}
+
+fn thirty_three_records(random: &mut Random) -> Vec<u8> {
+    let count = MOST_RECORDS + 1;
+    let total = random.between(count * SMALLEST_RECORD, LARGEST_STORE);
+    let sizes = sizes_of_total(count, total, random);
+    let numbers = object_numbers(count, random);
+    join(&make_objects(&numbers, &sizes, random))
+}
+
+fn too_long(random: &mut Random) -> Vec<u8> {
+    let count = random.between(12, MOST_RECORDS);
+    let total = match random.chance(50) {
+        true => LARGEST_STORE + 1,
+        false => random.between(LARGEST_STORE + 1, 18_000),
+    };
+    let sizes = sizes_of_total(count, total, random);
+    let numbers = object_numbers(count, random);
+    join(&make_objects(&numbers, &sizes, random))
+}
+
+/// A store whose last record lacks some of its bytes.
+fn cut_short(random: &mut Random) -> Vec<u8> {
+    let objects = valid_objects(random);
+    let mut store = join(&objects);
+    let last = objects[objects.len() - 1].size();
+    let cut = match random.below(3) {
+        0 => 1,
+        1 => last - 1,
+        _ => random.between(1, last - 1),
+    };
+    store.truncate(store.len() - cut);
+    store
+}
+
+/// A store with some bytes after its last record, fewer than a record has.
+fn trailing_bytes(random: &mut Random) -> Vec<u8> {
+    let mut store = join(&smaller_objects(random));
+    let count = random.between(1, DATA - 1);
+    let trailing = match random.below(3) {
+        0 => vec![0; 1],
+        1 => vec![0; count],
+        _ => random.bytes(count),
+    };
+    store.extend_from_slice(&trailing);
+    store
+}
+
+/// A session in which most commands are judged by the object.
+pub fn working_session(random: &mut Random) -> Session {
+    Session {
+        opened: random.chance(95),
+        lcsg: random.pick(&STATES),
+        lcsa: random.pick(&STATES[..3]),
+        error: match random.below(4) {
+            0 | 1 => 0,
+            2 => random.pick(&engine::Refusal::ALL).code(),
+            _ => random.byte(),
+        },
+    }
+}
+
+/// A session that is closed, terminated or has a byte that is no state.
+pub fn odd_session(random: &mut Random) -> Session {
+    let mut session = working_session(random);
+    match random.below(5) {
+        0 => session.opened = false,
+        1 => session.lcsa = 0x0F,
+        2 => session.lcsg = not_a_state(random),
+        3 => session.lcsa = not_a_state(random),
+        _ => {
+            session.opened = false;
+            session.lcsa = 0x0F;
+        }
+    }
+    session
+}
+
+pub fn not_a_state(random: &mut Random) -> u8 {
+    match random.chance(50) {
+        true => random.pick(&[0x00, 0x02, 0x04, 0x06, 0x08, 0x0E, 0x10, 0x80, 0xFF]),
+        false => random.byte_outside(&STATES),
+    }
+}

@@ -1,0 +1,21 @@
+//! Reference implementation of the secure element's command set: commands and
+//! responses, the object store, the session, the factory store, and the
+//! programs that run and compare lists of commands.
+
+pub mod coverage;
+pub mod engine;
+pub mod expression;
+pub mod factory;
+pub mod generator;
+pub mod kinds;
+pub mod metadata;
+pub mod program;
+pub mod replay;
+pub mod session;
+pub mod store;
+pub mod text;
+
+pub use engine::{execute, Answer};
+pub use factory::make_factory_store;
+pub use session::{fresh_session, Session};
+pub use store::check_store;

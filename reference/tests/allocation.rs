@@ -1,0 +1,53 @@
+//! `execute` takes no memory from the heap.
+
+mod common;
+
+use std::alloc::{GlobalAlloc, Layout, System};
+use std::cell::Cell;
+
+use common::{get_data, get_metadata, hex, set_metadata, write, Element, OPEN};
+use reference::execute;
+
+struct Counting;
+
+thread_local! {
+    static ALLOCATIONS: Cell<usize> = const { Cell::new(0) };
+}
+
+// SAFETY: every call goes on to the system's allocator.
+unsafe impl GlobalAlloc for Counting {
+    unsafe fn alloc(&self, layout: Layout) -> *mut u8 {
+        let _ = ALLOCATIONS.try_with(|count| count.set(count.get() + 1));
+        unsafe { System.alloc(layout) }
+    }
+
+    unsafe fn dealloc(&self, pointer: *mut u8, layout: Layout) {
+        unsafe { System.dealloc(pointer, layout) }
+    }
+}
+
+#[global_allocator]
+static ALLOCATOR: Counting = Counting;
+
+#[test]
+fn execute_does_not_allocate() {
+    let mut element = Element::fresh();
+    let commands = [
+        hex(OPEN),
+        write(0xF1D0, 3, &[1, 2, 3]),
+        get_data(0xF1D0, 0, 6),
+        get_metadata(0xF1D0),
+        set_metadata(0xF1D0, &hex("C0 01 03 D1 01 FF")),
+        get_data(0xF1D0, 0, 6),
+        get_data(0xF1C2, 0, 1),
+        vec![],
+    ];
+    let mut room = [0; 1_504];
+    let before = ALLOCATIONS.get();
+    for command in &commands {
+        let answer = execute(command, &mut element.store, element.session, &mut room);
+        element.session = answer.session;
+    }
+    assert_eq!(ALLOCATIONS.get(), before);
+    assert!(element.session.opened);
+}

@@ -1,0 +1,263 @@
+//! Stores that break one clause each.
+
+mod common;
+
+use common::{factory_store, get_metadata, Element};
+use reference::check_store;
+use reference::generator::random::Random;
+use reference::generator::stores::{valid_store, Damage};
+use reference::store::{judge_store, Fault, Slot};
+
+/// A record with always in each slot and no used bytes.
+fn record(object: u16, maximum: u16) -> Vec<u8> {
+    let mut bytes = Vec::new();
+    for number in [96 + maximum, 1, object, maximum, 0] {
+        bytes.extend_from_slice(&number.to_le_bytes());
+    }
+    bytes.extend_from_slice(&[1, 0]);
+    for _ in 0..3 {
+        let start = bytes.len();
+        bytes.push(1);
+        bytes.resize(start + 28, 0);
+    }
+    bytes.resize(96 + usize::from(maximum), 0);
+    bytes
+}
+
+fn records(count: u16, maximum: u16) -> Vec<u8> {
+    (0..count)
+        .flat_map(|place| record(0x1000 + place, maximum))
+        .collect()
+}
+
+/// Judges the store and checks that a command is refused for it.
+fn fault_of(store: &[u8]) -> Option<Fault> {
+    let fault = judge_store(store).err();
+    assert_eq!(check_store(store), fault.is_none());
+    let mut element = Element::opened();
+    element.store = store.to_vec();
+    let code = element.code(&get_metadata(0x0001));
+    assert_eq!(code, if fault.is_some() { 0x06 } else { 0x01 });
+    fault
+}
+
+/// The fault of a record of two bytes with one byte changed.
+fn fault_with(place: usize, byte: u8) -> Option<Fault> {
+    let mut store = record(0x1000, 2);
+    store[place] = byte;
+    fault_of(&store)
+}
+
+fn fault_with_slot(slot: Slot, expression: &[u8]) -> Option<Fault> {
+    let mut store = record(0x1000, 2);
+    let bytes = &mut store[slot.place()];
+    bytes.fill(0);
+    bytes[0] = expression.len() as u8;
+    for (byte, wanted) in bytes[1..].iter_mut().zip(expression) {
+        *byte = *wanted;
+    }
+    fault_of(&store)
+}
+
+#[test]
+fn well_formed_stores() {
+    assert_eq!(fault_of(&factory_store()), None);
+    assert_eq!(fault_of(&record(0x1000, 1)), None);
+    assert_eq!(fault_of(&record(0x1000, 1_500)), None);
+    assert_eq!(fault_of(&records(32, 1)), None);
+    // 32 records of 512 bytes are 16,384 bytes.
+    assert_eq!(fault_of(&records(32, 416)), None);
+    for object in [
+        0x0000, 0xE0BF, 0xE0C1, 0xF1C1, 0xF1C3, 0xFFFF, 0xC0E0, 0xC0F1,
+    ] {
+        assert_eq!(judge_store(&record(object, 1)), Ok(()), "{object:04X}");
+    }
+}
+
+#[test]
+fn counts_and_sizes() {
+    assert_eq!(fault_of(&[]), Some(Fault::NoRecord));
+    assert_eq!(fault_of(&records(33, 1)), Some(Fault::TooManyRecords));
+    let mut store = records(31, 416);
+    store.extend(record(0x2000, 417));
+    assert_eq!(store.len(), 16_385);
+    assert_eq!(fault_of(&store), Some(Fault::TooLong));
+}
+
+#[test]
+fn cut_short_and_trailing() {
+    let store = records(2, 5);
+    for length in 1..store.len() {
+        let expected = (length != 101).then_some(Fault::CutShort);
+        assert_eq!(fault_of(&store[..length]), expected, "{length}");
+    }
+    for trailing in 1..96 {
+        let mut longer = store.clone();
+        longer.resize(store.len() + trailing, 0);
+        assert_eq!(fault_of(&longer), Some(Fault::CutShort));
+    }
+    let mut longer = store.clone();
+    longer.resize(store.len() + 200, 0);
+    assert_eq!(fault_of(&longer), Some(Fault::Maximum));
+}
+
+#[test]
+fn record_length() {
+    for length in [0u16, 1, 2, 96, 97, 99, 98 << 8, 0xFFFF] {
+        let mut store = record(0x1000, 2);
+        store[..2].copy_from_slice(&length.to_le_bytes());
+        assert_eq!(fault_of(&store), Some(Fault::RecordLength), "{length}");
+    }
+}
+
+#[test]
+fn kind() {
+    for byte in (0..=255).filter(|&byte| byte != 1) {
+        assert_eq!(fault_with(2, byte), Some(Fault::Kind));
+    }
+    for byte in 1..=255 {
+        assert_eq!(fault_with(3, byte), Some(Fault::Kind));
+    }
+}
+
+#[test]
+fn maximum() {
+    assert_eq!(fault_of(&record(0x1000, 0)), Some(Fault::Maximum));
+    assert_eq!(fault_of(&record(0x1000, 1_501)), Some(Fault::Maximum));
+    assert_eq!(fault_of(&record(0x1000, 10_000)), Some(Fault::Maximum));
+}
+
+#[test]
+fn used() {
+    assert_eq!(fault_with(8, 2), None);
+    assert_eq!(fault_with(8, 3), Some(Fault::Used));
+    assert_eq!(fault_with(9, 1), Some(Fault::Used));
+    assert_eq!(fault_with(9, 255), Some(Fault::Used));
+}
+
+#[test]
+fn life_cycle_and_zero_byte() {
+    for byte in 0..=255 {
+        let expected = match byte {
+            0x01 | 0x03 | 0x07 | 0x0F => None,
+            _ => Some(Fault::LifeCycle),
+        };
+        assert_eq!(fault_with(10, byte), expected);
+    }
+    for byte in 1..=255 {
+        assert_eq!(fault_with(11, byte), Some(Fault::ZeroByte));
+    }
+}
+
+#[test]
+fn expressions_in_each_slot() {
+    for slot in Slot::ALL {
+        let good: [&[u8]; 5] = [
+            &[0x00],
+            &[0xFF],
+            &[0x70, 0xFA, 0x01],
+            &[0xE0, 0xFB, 0x03, 0xFE, 0xE1, 0xFC, 0x0F],
+            &common::chain(7),
+        ];
+        for expression in good {
+            assert_eq!(fault_with_slot(slot, expression), None);
+        }
+        let bad: [&[u8]; 10] = [
+            &[],
+            &[0x01],
+            &[0x00, 0x00],
+            &[0x70, 0xFA],
+            &[0x71, 0xFA, 0x01],
+            &[0x70, 0xFD, 0x01],
+            &[0x70, 0xFA, 0x04],
+            &[0x70, 0xFA, 0x01, 0xFC, 0x70, 0xFA, 0x01],
+            &[0x70, 0xFA, 0x01, 0xFD, 0x00],
+            &common::chain(8),
+        ];
+        for expression in bad {
+            assert_eq!(
+                fault_with_slot(slot, expression),
+                Some(Fault::Expression(slot)),
+                "{expression:02X?}"
+            );
+        }
+        let mut four_groups = common::chain(4);
+        for join in [3, 7, 11] {
+            four_groups[join] = 0xFE;
+        }
+        let fault = fault_with_slot(slot, &four_groups);
+        assert_eq!(fault, Some(Fault::Expression(slot)));
+        for length in 28..=255 {
+            let mut store = record(0x1000, 2);
+            store[slot.place().start] = length;
+            assert_eq!(fault_of(&store), Some(Fault::Expression(slot)));
+        }
+    }
+}
+
+#[test]
+fn zeros_after_each_expression() {
+    for slot in Slot::ALL {
+        for place in slot.place().skip(2) {
+            assert_eq!(fault_with(place, 1), Some(Fault::SlotTail(slot)));
+        }
+    }
+}
+
+#[test]
+fn zeros_after_used() {
+    let mut store = record(0x1000, 9);
+    store[8] = 4;
+    store[96..100].fill(0xFF);
+    assert_eq!(fault_of(&store), None);
+    for place in 100..105 {
+        let mut dirty = store.clone();
+        dirty[place] = 1;
+        assert_eq!(fault_of(&dirty), Some(Fault::DataTail));
+    }
+}
+
+#[test]
+fn order_of_numbers() {
+    let pair = |first, second| [record(first, 1), record(second, 2)].concat();
+    assert_eq!(fault_of(&pair(0x00FF, 0x0100)), None);
+    assert_eq!(fault_of(&pair(0x0100, 0x00FF)), Some(Fault::Order));
+    assert_eq!(fault_of(&pair(0x0100, 0x0100)), Some(Fault::Order));
+    assert_eq!(fault_of(&pair(0x0001, 0x0000)), Some(Fault::Order));
+    assert_eq!(fault_of(&pair(0x0000, 0x0000)), Some(Fault::Order));
+}
+
+#[test]
+fn session_objects() {
+    for object in [0xE0C0, 0xF1C0, 0xF1C2] {
+        let fault = fault_of(&record(object, 1));
+        assert_eq!(fault, Some(Fault::SessionObject));
+    }
+}
+
+#[test]
+fn faults_of_a_later_record() {
+    for place in 0..14 {
+        let start = match place {
+            0..=12 => place * 236,
+            _ => 12 * 236 + 1_596,
+        };
+        let mut store = factory_store();
+        store[start + 11] = 1;
+        assert_eq!(fault_of(&store), Some(Fault::ZeroByte), "{place}");
+    }
+}
+
+#[test]
+fn generated_stores_are_as_meant() {
+    let mut random = Random::new(77);
+    for _ in 0..200 {
+        assert_eq!(judge_store(&valid_store(&mut random)), Ok(()));
+    }
+    for damage in Damage::all() {
+        for _ in 0..40 {
+            let store = damage.make(&mut random);
+            assert_eq!(judge_store(&store), Err(damage.fault()), "{damage:?}");
+        }
+    }
+}
