@@ -1,3 +1,4 @@
 pub mod Sessions
 pub mod Doing
 pub mod Whole
+pub mod Demands

@@ -47,6 +47,15 @@ module _ (c : List ℕ) (k : ℕ) (ek : k ≡ offset c) (r : Verdict) (g w : Boo
       r ≡ late g (leb (offset c + length (sent-data c)) m) a 0 room
   write-by a d ed ew e = e ∙ (λ i. late g ((ew ∙ (λ j. leb (ek j + length (ed j)) m)) i) a 0 room)
 
+-- `judge_state`
+pub first-byte : (c : List ℕ) → getD c 8 0 ≡ getD (sent-data c) 0 0
+unfolding sent-data
+first-byte c = sym (getD-drop 8 c 0 0)
+
+pub state-by : (c : List ℕ) (byte room : ℕ) (g w a : Bool) (r : Verdict) → a ≡ may-become byte (getD c 8 0) → r ≡ late g w a 0 room →
+    r ≡ late g w (may-become byte (getD (sent-data c) 0 0)) 0 room
+state-by c byte room g w a r ea e = e ∙ ap (λ x. late g w x 0 room) (ea ∙ ap (may-become byte) (first-byte c))
+
 -- `slot_holds`
 module _ (p : ℕ) (b : List ℕ) (t : Stored p b) (w : Slot) (part : List ℕ) (e : part ≡ expression-bytes (expression-in w (object-at p b))) where
   pub part-well-formed : is-some (expression part) ≡ true
@@ -90,10 +99,6 @@ unfolding holds
 writable-holds s byte true = refl
 writable-holds s byte false = refl
 
-pub first-byte : (c : List ℕ) → getD c 8 0 ≡ getD (sent-data c) 0 0
-unfolding sent-data
-first-byte c = sym (getD-drop 8 c 0 0)
-
 module _ (w : Row) (c : List ℕ) (n byte : ℕ) (wr : Bool) (s : Session) (room : ℕ) where
   pub session-get : (r : Verdict) → w ≡ GetData → r ≡ late true (leb (offset c + asked-length c) 1) true (asked-length c) room →
       r ≡ late-of (operation w c (kept n byte wr) s) room
@@ -109,15 +114,12 @@ module _ (w : Row) (c : List ℕ) (n byte : ℕ) (wr : Bool) (s : Session) (room
     unfolding operation setting-metadata late-of kept session-object late _refused_or_
     session-set e = rw (e, i)
 
-    module _ (m : Bool) (r : Verdict) (em : m ≡ may-become byte (getD c 8 0)) (f : r ≡ late wr (leb (offset c + length (sent-data c)) 1) m 0 room) where
+    module _ (r : Verdict) (f : r ≡ late wr (leb (offset c + length (sent-data c)) 1) (may-become byte (getD (sent-data c) 0 0)) 0 room) where
       -- over any old content
       session-writing : (old : List ℕ) → r ≡ late-of (writing old c (kept n byte wr) s) room
       unfolding writing late-of kept session-object
       session-writing old =
-          f ∙ (λ j. late (writable-holds s byte wr j) (leb (offset c + length (sent-data c)) 1) (allowed-there j) 0 room)
-        where
-          allowed-there : m ≡ (not (in-session n) || may-become byte (getD (sent-data c) 0 0))
-          allowed-there = rw i (em ∙ ap (may-become byte) (first-byte c))
+          rw i (f ∙ ap (λ g. late g (leb (offset c + length (sent-data c)) 1) (may-become byte (getD (sent-data c) 0 0)) 0 room) (writable-holds s byte wr))
 
       pub session-write : w ≡ Write → r ≡ late-of (operation w c (kept n byte wr) s) room
       unfolding operation
@@ -152,27 +154,31 @@ module _ (p : ℕ) (b : List ℕ) (t : Stored p b) where
     unfolding operation getting-metadata late-of
     stored-tell n e en f = rw (e, outside) (f ∙ ap (λ k. late true true true k room) en)
 
-    module _ (g : Bool) (eg : g ≡ holds s (object-at p b .lcso) (expression-in Change (object-at p b))) where
+    module _ (f : r ≡ late (holds s (object-at p b .lcso) (object-at p b .change)) (leb (offset c + length (sent-data c)) (object-at p b .maximum)) true 0 room) where
       -- over any old content
-      stored-writing : (old : List ℕ) (m : ℕ) → m ≡ object-at p b .maximum → r ≡ late g (leb (offset c + length (sent-data c)) m) true 0 room →
-          r ≡ late-of (writing old c (object-at p b) s) room
-      unfolding writing late-of expression-in
-      stored-writing old m em f = rw outside (f ∙ (λ i. late (eg i) (leb (offset c + length (sent-data c)) (em i)) true 0 room))
+      stored-writing : (old : List ℕ) → r ≡ late-of (writing old c (object-at p b) s) room
+      unfolding writing late-of
+      stored-writing old = rw outside f
 
-      pub stored-write : (m : ℕ) → w ≡ Write → m ≡ object-at p b .maximum → r ≡ late g (leb (offset c + length (sent-data c)) m) true 0 room →
-          r ≡ late-of (operation w c (object-at p b) s) room
+      pub stored-write : w ≡ Write → r ≡ late-of (operation w c (object-at p b) s) room
       unfolding operation
-      stored-write m e em f = rw e (stored-writing (object-at p b .content) m em f)
+      stored-write e = rw e (stored-writing (object-at p b .content))
 
-      pub stored-erase : (m : ℕ) → w ≡ EraseAndWrite → m ≡ object-at p b .maximum → r ≡ late g (leb (offset c + length (sent-data c)) m) true 0 room →
-          r ≡ late-of (operation w c (object-at p b) s) room
+      pub stored-erase : w ≡ EraseAndWrite → r ≡ late-of (operation w c (object-at p b) s) room
       unfolding operation
-      stored-erase m e em f = rw e (stored-writing [] m em f)
+      stored-erase e = rw e (stored-writing [])
 
-      pub stored-set : w ≡ SetMetadata → r ≡ late g true (metadata-allowed (object-at p b .lcso) (sent-metadata c)) 0 room →
-          r ≡ late-of (operation w c (object-at p b) s) room
-      unfolding operation setting-metadata late-of expression-in
-      stored-set e f = rw (e, outside) (f ∙ (λ i. late (eg i) true (metadata-allowed (object-at p b .lcso) (sent-metadata c)) 0 room))
+    pub stored-set : (g : Bool) → g ≡ holds s (object-at p b .lcso) (expression-in Change (object-at p b)) → w ≡ SetMetadata →
+        r ≡ late g true (metadata-allowed (object-at p b .lcso) (sent-metadata c)) 0 room → r ≡ late-of (operation w c (object-at p b) s) room
+    unfolding operation setting-metadata late-of expression-in
+    stored-set g eg e f = rw (e, outside) (f ∙ (λ i. late (eg i) true (metadata-allowed (object-at p b .lcso) (sent-metadata c)) 0 room))
+
+  -- `judge_data`
+  pub data-by : (c : List ℕ) (s : Session) (g : Bool) (m room : ℕ) (r : Verdict) → g ≡ holds s (object-at p b .lcso) (expression-in Change (object-at p b)) →
+      m ≡ object-at p b .maximum → r ≡ late g (leb (offset c + length (sent-data c)) m) true 0 room →
+      r ≡ late (holds s (object-at p b .lcso) (object-at p b .change)) (leb (offset c + length (sent-data c)) (object-at p b .maximum)) true 0 room
+  unfolding expression-in
+  data-by c s g m room r eg em e = e ∙ (λ i. late (eg i) (leb (offset c + length (sent-data c)) (em i)) true 0 room)
 
 -- step 9, and the later ones at the object named --------------------------------------------------------------------------------
 

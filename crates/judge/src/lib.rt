@@ -11,10 +11,10 @@ ghost use mathlib.Core.Bool.{true};
 ghost use mathlib.Core.List.{[]};
 ghost use Prim.Native.Nat.{_+_, _-_, _<_, _≤_};
 ghost use lib.Dec.{leb};
-ghost use lib.ListN.{length};
+ghost use lib.ListN.{length, getD};
 ghost use Rattle.rules.specs.Basic.{is-some, or-else};
 ghost use Rattle.rules.specs.Command.{row, length-right, offset, asked-length, sent-data, sent-metadata};
-ghost use Rattle.rules.specs.Expression.{holds};
+ghost use Rattle.rules.specs.Expression.{holds, may-become};
 ghost use Rattle.rules.specs.Object.{in-session, expression-in};
 ghost use Rattle.rules.specs.Layout.{unpack};
 ghost use Rattle.rules.specs.Operation.{operation, named};
@@ -75,6 +75,15 @@ fn judge_write(command: &[u8], limit: Length, granted: bool, allowed: bool, room
     command::late(granted, within, allowed, Length(0), room)
 }
 
+// Steps 10 to 13 of a write to an object of the session, which holds one byte.
+fn judge_state(command: &[u8], byte: u8, writable: bool, room: usize) -> Verdict
+    requires { ⌜ 9 ≤ length (now command) ⌝ }
+    ensures { λ r. ⌜ r ≡ late writable (leb (offset (now (command .entry)) + length (sent-data (now (command .entry)))) 1) (may-become byte (getD (sent-data (now (command .entry))) 0 0)) 0 room ⌝ }
+{
+    let allowed = expression::may_become(byte, command[8]);
+    judge_write(command, Length(1), writable, allowed, room)
+}
+
 // Steps 10 to 13 at an object of the session.
 fn judge_session(
     asked: Row,
@@ -91,20 +100,8 @@ fn judge_session(
     match asked {
         Row::GetData => judge_get(command, Length(1), true, room),
         Row::GetMetadata => Verdict::Refused(Refusal::AccessDenied),
-        Row::Write => judge_write(
-            command,
-            Length(1),
-            writable,
-            expression::may_become(byte, command[8]),
-            room,
-        ),
-        Row::EraseAndWrite => judge_write(
-            command,
-            Length(1),
-            writable,
-            expression::may_become(byte, command[8]),
-            room,
-        ),
+        Row::Write => judge_state(command, byte, writable, room),
+        Row::EraseAndWrite => judge_state(command, byte, writable, room),
         Row::SetMetadata => Verdict::Refused(Refusal::AccessDenied),
         Row::OpenApplication => command::late(true, true, true, Length(0), room),
         Row::CloseApplication => command::late(true, true, true, Length(0), room),
@@ -119,6 +116,16 @@ fn slot_holds(store: &[u8], at: usize, slot: Slot, session: Session) -> bool
 {
     let part = store::slot_part(store, at, slot);
     expression::holds(part, session, store::lcso_at(store, at))
+}
+
+// Steps 10 to 13 of a write of data to a found record.
+fn judge_data(command: &[u8], store: &[u8], at: usize, session: Session, room: usize) -> Verdict
+    requires { ⌜ Stored at (now store) × (8 ≤ length (now command)) ⌝ }
+    ensures { λ r. ⌜ r ≡ late (holds session (object-at at (now (store .entry)) .lcso) (object-at at (now (store .entry)) .change))
+        (leb (offset (now (command .entry)) + length (sent-data (now (command .entry)))) (object-at at (now (store .entry)) .maximum)) true 0 room ⌝ }
+{
+    let granted = slot_holds(store, at, Slot::Change, session);
+    judge_write(command, store::maximum_at(store, at), granted, true, room)
 }
 
 // Steps 10 to 13 of a set of metadata at a found record.
@@ -157,20 +164,8 @@ fn judge_stored(
             metadata::answer_length(store, at),
             room,
         ),
-        Row::Write => judge_write(
-            command,
-            store::maximum_at(store, at),
-            slot_holds(store, at, Slot::Change, session),
-            true,
-            room,
-        ),
-        Row::EraseAndWrite => judge_write(
-            command,
-            store::maximum_at(store, at),
-            slot_holds(store, at, Slot::Change, session),
-            true,
-            room,
-        ),
+        Row::Write => judge_data(command, store, at, session, room),
+        Row::EraseAndWrite => judge_data(command, store, at, session, room),
         Row::SetMetadata => judge_metadata(
             command,
             store,

@@ -2,7 +2,7 @@
 use Prim.Native.Nat.{ℕ, _+_, _-_, _≤_, _<_}
 use mathlib.Core.Path.{_≡_, refl, sym, ap, _∙_}
 use mathlib.Core.Bool.{Bool, true, false}
-use mathlib.Core.List.{List, [], _∷_, _++_}
+use mathlib.Core.List.{List, _∷_}
 use native.Mathlib.Omega.{arith}
 use native.Mathlib.Nat.{add-assoc}
 use native.Mathlib.Numerals.{add-one}
@@ -40,9 +40,9 @@ unfolding fields-bytes field-at
 stands k m f fs b =
     let n : length m - k ≡ 2 + (length (f .value) + length (fields-bytes fs)) =
     omega (arith, length-drop k m, ap length b, length-append (f .value) (fields-bytes fs)) in
-    let z : k ≡ k + 0 = omega arith in
-    let t : getD m k 0 ≡ f .tag = ap (λ i. getD m i 0) z ∙ sym (getD-drop k m 0 0) ∙ ap (λ x. getD x 0 0) b in
-    let l : getD m (k + 1) 0 ≡ length (f .value) = sym (getD-drop k m 1 0) ∙ ap (λ x. getD x 1 0) b in
+    let z : k + 0 ≡ k = omega arith in
+    let t : getD m k 0 ≡ f .tag = rw (← z, ← getD-drop k m 0 0, b) in
+    let l : getD m (k + 1) 0 ≡ length (f .value) = rw (← getD-drop k m 1 0, b) in
     rw (
       lt-leb (length m) k (omega arith),
       le-ltb (length m - k) 2 (omega arith),

@@ -9,7 +9,7 @@ use borrow.Author.Tests.{eqb-true, ltb-true, leb-true, le-leb, lt-leb, lt-ltb, l
 use lib.Dec.{eqb, ltb, leb}
 use lib.ListN.{length, getD, take, drop, length-append, length-take, length-drop, drop-of-length-le, take-append-drop}
 use lib.Seq.{take-append-seam, drop-append-seam, drop-drop, getD-drop}
-use Rattle.rules.specs.Basic.{if_then_else_, all, among, same, rising, rising-from, is-some}
+use Rattle.rules.specs.Basic.{if_then_else_, all, among, rising, rising-from, is-some}
 use Rattle.rules.specs.Expression.{expression, may-become}
 use Rattle.rules.specs.Metadata.{Field, field, fields-bytes, led-by-20, read-fields, sent-fields, field-allowed, fields-allowed, metadata-allowed}
 use Rattle.rules.proofs.Tests.{and-left, and-right, and-both, at-place, same-refl, same-eq}
@@ -19,7 +19,7 @@ use Rattle.metadata.specs.declared.Next.{Next}
 use Rattle.metadata.specs.declared.Next.the-variants.{End, Broken}
 use Rattle.metadata.specs.declared.Next.the-variants as next
 use Rattle.metadata.specs.Content.{field-at}
-use Rattle.metadata.proofs.Fields.{Here, Cut, two, here, ended, broken}
+use Rattle.metadata.proofs.Fields.{two, here, ended, broken}
 
 abbrev pub tags : List Field → List ℕ
 tags fs = map (λ f. f .tag) fs

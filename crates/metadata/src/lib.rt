@@ -26,6 +26,7 @@ pub enum Next {
     Broken,
 }
 
+// The tags of the LcsO, the maximum, the bytes in use, and the expressions for change, read and execute.
 const STATE_TAG: u8 = 0xC0;
 
 const MAXIMUM_TAG: u8 = 0xC4;
@@ -38,6 +39,7 @@ const READ_TAG: u8 = 0xD1;
 
 const EXECUTE_TAG: u8 = 0xD3;
 
+// What stands there, of any bytes at any position.
 pub fn field_at(content: &[u8], at: usize) -> Next
     ensures { λ r. ⌜ r ≡ field-at at (now (content .entry)) ⌝ }
 {
@@ -136,7 +138,7 @@ fn slot_of(tag: u8) -> Slot
     Slot::Execute
 }
 
-// Stores the field whose value is content[start..end]; that it does not fall is judged before.
+// Stores the field whose value is content[start..end]; that an LcsO does not fall is judged before.
 fn store_field(store: &mut [u8], at: usize, content: &[u8], tag: u8, start: usize, end: usize)
     requires { ⌜ Stored at (now store) × (start ≤ end) × (end ≤ length (now content))
         × (field-allowed 0 (field tag (part (now content) start end)) ≡ true) ⌝ }

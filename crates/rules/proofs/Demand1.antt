@@ -22,7 +22,7 @@ use Rattle.rules.specs.Layout.{unpack}
 use Rattle.rules.specs.Operation.{Operation, named, requested}
 use Rattle.rules.specs.Refusals.{verdict}
 use Rattle.rules.specs.Step.{After, declined, performed, answered, judged, flushed, unanswered, step}
-use Rattle.rules.specs.Demand.{is-done, is-refused, listed, RefusedWith, Answered, no-room, refused, done}
+use Rattle.rules.specs.Demand.{is-done, is-refused, listed, RefusedWith, SomeRefusal, Answered, no-room, refused, done}
 use Rattle.rules.proofs.Tests.{and-left, and-right}
 
 -- every refusal's number is in the list
@@ -91,10 +91,6 @@ unfolding is-refused
 unanswered-not-refused room store s h = false≢true h
 
 -- what is seen as refused is a refusal with a number of the list that changes only the response and the last error
-pub record SomeRefusal (c room store : List ℕ) (s : Session) (a : After) : Type 0 where
-  pub refusal : Refusal
-  pub with : RefusedWith refusal c room store s a
-
 pub refusal-changes-last-error-only : (c room store : List ℕ) (s : Session) → is-refused (step c room store s) ≡ true →
     SomeRefusal c room store s (step c room store s)
 refusal-changes-last-error-only c room store s h = go (step c room store s) (every-command-answered c room store s) h

@@ -218,7 +218,7 @@ module _ (c room store : List ℕ) (s : Session) (os : List Object) (o : Object)
       (verdict-passed c (length room) (some os) (flushed c s) e)
       (ap (λ (p : Operation). p .stores) (requested-is c room store s os ready o finds gs) ∙ asks .puts) .allowed
 
-  pub write-exactly-when : WritesExactly c room store s os o
+  pub write-exactly-when : WritesExactly c room store s os o (step c room store s)
   write-exactly-when =
       record {
         when = λ m. written (may-accepted m);
@@ -288,7 +288,7 @@ module _ (c room store : List ℕ) (s : Session) (os : List Object) (o : Object)
       performed-by c room store s os ready o finds gets e ∙
       (λ i. record { outcome = 0; room = put-in-front (done-response (reading .answers i)) room; store = stored (reading .stores i) store os; session = reading .leaves i })
 
-  pub read-exactly-when : ReadsExactly c room store s o
+  pub read-exactly-when : ReadsExactly c room store s o (step c room store s)
   unfolding shown
   read-exactly-when =
       record {

@@ -21,7 +21,7 @@ use Rattle.rules.specs.Layout.{unpack, pack, find, replaced}
 use Rattle.rules.specs.Metadata.{Field, fields-bytes, object-fields, led-by-20, metadata-allowed, sent-fields, with-fields}
 use Rattle.rules.specs.Operation.{put-at, with-content}
 use Rattle.rules.specs.Refusals.{ill-sized}
-use Rattle.rules.specs.Step.{After, raised, flushed, step}
+use Rattle.rules.specs.Step.{After, raised, flushed}
 use Rattle.rules.specs.Run.{Turn}
 
 -- a response stands, and its status byte is 00 or FF
@@ -45,6 +45,10 @@ pub record RefusedWith (r : Refusal) (c room store : List ℕ) (s : Session) (a 
   pub response : a .room ≡ put-in-front refused-response room
   pub store-kept : a .store ≡ store
   pub session-kept : a .session ≡ raised (code r) (flushed c s)
+
+pub record SomeRefusal (c room store : List ℕ) (s : Session) (a : After) : Type 0 where
+  pub refusal : Refusal
+  pub with : RefusedWith refusal c room store s a
 
 -- whatever the bytes are, one of three: no room for a status and nothing changes at all, refused, or done
 pub data Answered (c room store : List ℕ) (s : Session) (a : After) : Type 0 where
@@ -107,13 +111,12 @@ pub record MayWrite (c : List ℕ) (s : Session) (o : Object) : Type 0 where
   pub content-allowed-and-fits : content-allowed (row c) c o ≡ true
 
 -- a write makes its change exactly when it may: then it is done and the object, and it alone, is the changed one; else nothing is stored
-pub record WritesExactly (c room store : List ℕ) (s : Session) (os : List Object) (o : Object) : Type 0 where
+pub record WritesExactly (c room store : List ℕ) (s : Session) (os : List Object) (o : Object) (a : After) : Type 0 where
   pub when : MayWrite c s o →
-      step c room store s ≡
-      record { outcome = 0; room = put-in-front (done-response []) room; store = pack (replaced (changed (row c) c o) os); session = flushed c s }
-  pub objects-after : MayWrite c s o → unpack (step c room store s .store) ≡ some (replaced (changed (row c) c o) os)
-  pub only-when : is-done (step c room store s) ≡ true → MayWrite c s o
-  pub else-kept : is-done (step c room store s) ≡ false → step c room store s .store ≡ store
+      a ≡ record { outcome = 0; room = put-in-front (done-response []) room; store = pack (replaced (changed (row c) c o) os); session = flushed c s }
+  pub objects-after : MayWrite c s o → unpack (a .store) ≡ some (replaced (changed (row c) c o) os)
+  pub only-when : is-done a ≡ true → MayWrite c s o
+  pub else-kept : is-done a ≡ false → a .store ≡ store
 
 -- when a data read shows data
 pub record MayRead (c : List ℕ) (room : ℕ) (s : Session) (o : Object) : Type 0 where
@@ -123,17 +126,17 @@ pub record MayRead (c : List ℕ) (room : ℕ) (s : Session) (o : Object) : Type
   pub answer-fits : 4 + asked-length c ≤ room
 
 -- a data read shows exactly the stored bytes asked for, and only when the read condition holds; it changes nothing stored
-pub record ReadsExactly (c room store : List ℕ) (s : Session) (o : Object) : Type 0 where
+pub record ReadsExactly (c room store : List ℕ) (s : Session) (o : Object) (a : After) : Type 0 where
   pub when : MayRead c (length room) s o →
-      step c room store s ≡
+      a ≡
       record {
         outcome = 0;
         room = put-in-front (done-response (take (asked-length c) (drop (offset c) (o .content)))) room;
         store = store;
         session = flushed c s;
       }
-  pub only-when : is-done (step c room store s) ≡ true → MayRead c (length room) s o
-  pub store-kept : step c room store s .store ≡ store
+  pub only-when : is-done a ≡ true → MayRead c (length room) s o
+  pub store-kept : a .store ≡ store
 
 -- the send-back case: an object's metadata read back, without C4 and C5, and the command that sends it in -------------------
 

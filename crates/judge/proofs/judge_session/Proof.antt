@@ -1,16 +1,15 @@
-use borrow.Author.Needs.{needs}
-use lib.Dec.{lit≤}
-use Rattle.command.specs.InForm.{least}
-use Rattle.command.proofs.InForm.{long-enough}
 use Rattle.judge.proofs.Judging.{session-get, session-tell, session-set, session-write, session-erase, open-judged, close-judged, unknown-judged}
+use Rattle.command.proofs.InForm.{long-enough}
+use Rattle.command.specs.InForm.{least}
+use lib.Dec.{lit≤}
+use borrow.Author.Needs.{needs}
 use Rattle.judge.proofs.judge_session.Statement.{statement}
 use Rattle.judge.proofs.judge_session.Tie as tie
 use Rattle.judge.proofs.judge_session.Reads as reads
 use Rattle.judge.proofs.judge_session.Lts as lts
 use Rattle.command.proofs.late.Reads as late-reads
-use Rattle.expression.proofs.may_become.Reads as may-become-reads
 use Rattle.judge.proofs.judge_get.Reads as judge-get-reads
-use Rattle.judge.proofs.judge_write.Reads as judge-write-reads
+use Rattle.judge.proofs.judge_state.Reads as judge-state-reads
 
 enum-told : tie.Need-enum-told
 enum-told c = search needs
@@ -25,30 +24,16 @@ enum-told-2 c = search needs
 enum-told-3 : tie.Need-enum-told-3
 enum-told-3 c = search needs
 
-shared-slice-read-may-become : tie.Need-shared-slice-read-may-become
+judge-state-requires : tie.Need-judge-state-requires
 unfolding least
-shared-slice-read-may-become c = search (long-enough, lit≤)
-
-may-become-requires : tie.Need-may-become-requires
-may-become-requires c κs = search needs
-
-judge-write-requires : tie.Need-judge-write-requires
-unfolding least
-judge-write-requires c κs = search (long-enough, lit≤)
+judge-state-requires c κs = search (long-enough, lit≤)
 
 enum-told-4 : tie.Need-enum-told-4
 enum-told-4 c = search needs
 
-shared-slice-read-may-become-2 : tie.Need-shared-slice-read-may-become-2
+judge-state-requires-2 : tie.Need-judge-state-requires-2
 unfolding least
-shared-slice-read-may-become-2 c = search (long-enough, lit≤)
-
-may-become-requires-2 : tie.Need-may-become-requires-2
-may-become-requires-2 c κs = search needs
-
-judge-write-requires-2 : tie.Need-judge-write-requires-2
-unfolding least
-judge-write-requires-2 c κs = search (long-enough, lit≤)
+judge-state-requires-2 c κs = search (long-enough, lit≤)
 
 enum-told-5 : tie.Need-enum-told-5
 enum-told-5 c = search needs
@@ -103,13 +88,9 @@ judge-session-spec =
     judge-get-requires
     enum-told-2
     enum-told-3
-    shared-slice-read-may-become
-    may-become-requires
-    judge-write-requires
+    judge-state-requires
     enum-told-4
-    shared-slice-read-may-become-2
-    may-become-requires-2
-    judge-write-requires-2
+    judge-state-requires-2
     enum-told-5
     enum-told-6
     late-requires

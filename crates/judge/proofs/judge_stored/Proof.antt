@@ -8,12 +8,11 @@ use Rattle.judge.proofs.judge_stored.Tie as tie
 use Rattle.judge.proofs.judge_stored.Reads as reads
 use Rattle.judge.proofs.judge_stored.Lts as lts
 use Rattle.command.proofs.late.Reads as late-reads
+use Rattle.judge.proofs.judge_data.Reads as judge-data-reads
 use Rattle.judge.proofs.judge_get.Reads as judge-get-reads
 use Rattle.judge.proofs.judge_metadata.Reads as judge-metadata-reads
-use Rattle.judge.proofs.judge_write.Reads as judge-write-reads
 use Rattle.judge.proofs.slot_holds.Reads as slot-holds-reads
 use Rattle.metadata.proofs.answer_length.Reads as answer-length-reads
-use Rattle.store.proofs.maximum_at.Reads as maximum-at-reads
 use Rattle.store.proofs.used_at.Reads as used-at-reads
 
 enum-told : tie.Need-enum-told
@@ -41,34 +40,22 @@ late-requires c κs = search needs
 enum-told-3 : tie.Need-enum-told-3
 enum-told-3 c = search needs
 
-maximum-at-requires : tie.Need-maximum-at-requires
-maximum-at-requires c κs = search needs
-
-slot-holds-requires-2 : tie.Need-slot-holds-requires-2
-slot-holds-requires-2 c κs = search needs
-
-judge-write-requires : tie.Need-judge-write-requires
+judge-data-requires : tie.Need-judge-data-requires
 unfolding least
-judge-write-requires c κs = search (long-enough, lit≤)
+judge-data-requires c κs = (search needs, search (long-enough, lit≤))
 
 enum-told-4 : tie.Need-enum-told-4
 enum-told-4 c = search needs
 
-maximum-at-requires-2 : tie.Need-maximum-at-requires-2
-maximum-at-requires-2 c κs = search needs
-
-slot-holds-requires-3 : tie.Need-slot-holds-requires-3
-slot-holds-requires-3 c κs = search needs
-
-judge-write-requires-2 : tie.Need-judge-write-requires-2
+judge-data-requires-2 : tie.Need-judge-data-requires-2
 unfolding least
-judge-write-requires-2 c κs = search (long-enough, lit≤)
+judge-data-requires-2 c κs = (search needs, search (long-enough, lit≤))
 
 enum-told-5 : tie.Need-enum-told-5
 enum-told-5 c = search needs
 
-slot-holds-requires-4 : tie.Need-slot-holds-requires-4
-slot-holds-requires-4 c κs = search needs
+slot-holds-requires-2 : tie.Need-slot-holds-requires-2
+slot-holds-requires-2 c κs = search needs
 
 judge-metadata-requires : tie.Need-judge-metadata-requires
 unfolding least
@@ -128,15 +115,11 @@ judge-stored-spec =
     answer-length-requires
     late-requires
     enum-told-3
-    maximum-at-requires
-    slot-holds-requires-2
-    judge-write-requires
+    judge-data-requires
     enum-told-4
-    maximum-at-requires-2
-    slot-holds-requires-3
-    judge-write-requires-2
+    judge-data-requires-2
     enum-told-5
-    slot-holds-requires-4
+    slot-holds-requires-2
     judge-metadata-requires
     enum-told-6
     late-requires-2

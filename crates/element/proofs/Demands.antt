@@ -1,0 +1,42 @@
+-- The demands on one command, of `execute` itself: they follow from its contract and the laws of the rules. A call is told by what it was
+-- lent (command, room, store, session) and what it left (answer, room, store).
+use Prim.Native.Nat.{ℕ, _<_}
+use mathlib.Core.Bool.{Bool, true}
+use mathlib.Core.List.{List}
+use mathlib.Core.Option.{Option, some}
+use mathlib.Core.Path.{_≡_, sym, subst, _∙_}
+use lib.ListN.{length}
+use Rattle.rules.specs.declared.Session.{Session}
+use Rattle.rules.specs.declared.Row.the-variants.{GetData}
+use Rattle.rules.specs.Command.{row, object-number}
+use Rattle.rules.specs.Object.{Object}
+use Rattle.rules.specs.Layout.{find}
+use Rattle.rules.specs.Step.{After, step}
+use Rattle.rules.specs.Demand.{is-refused, SomeRefusal, Answered, Ready, writes, WritesExactly, ReadsExactly}
+use Rattle.rules.proofs.Demand1.{every-command-answered, no-room-changes-nothing, refusal-changes-last-error-only}
+use Rattle.rules.proofs.Demand2.{write-exactly-when, read-exactly-when}
+use Rattle.element.specs.declared.Answer.{Answer}
+use Rattle.element.specs.Executed.{executed}
+
+module _ (c room store : List ℕ) (s : Session) (r : Answer) (room′ store′ : List ℕ) (call : executed r room′ store′ ≡ step c room store s) where
+  -- demand 1: whatever bytes come in, there is an answer: no room for a status and nothing changed, refused, or done
+  pub execute-answers : Answered c room store s (executed r room′ store′)
+  execute-answers = subst (λ (a : After). Answered c room store s a) (sym call) (every-command-answered c room store s)
+
+  -- demand 1: a refusal changes only the response and the last error
+  pub execute-refusal : is-refused (executed r room′ store′) ≡ true → SomeRefusal c room store s (executed r room′ store′)
+  execute-refusal h =
+      subst (λ (a : After). is-refused a ≡ true → SomeRefusal c room store s a) (sym call) (refusal-changes-last-error-only c room store s) h
+
+  -- demand 1: with no room for even a status, nothing changes at all
+  pub execute-no-room : length room < 4 → executed r room′ store′ ≡ record { outcome = 1; room = room; store = store; session = s }
+  execute-no-room h = call ∙ no-room-changes-nothing c room store s h
+
+  module _ (os : List Object) (o : Object) (ready : Ready room store s os) (finds : find (object-number c) os ≡ some o) where
+    -- demand 2: a write to a stored object makes its change exactly when it may
+    pub execute-writes : writes (row c) ≡ true → WritesExactly c room store s os o (executed r room′ store′)
+    execute-writes w = subst (λ (a : After). WritesExactly c room store s os o a) (sym call) (write-exactly-when c room store s os o ready w finds)
+
+    -- demand 2: a data read shows exactly the stored bytes, and only when the read condition holds
+    pub execute-reads : row c ≡ GetData → ReadsExactly c room store s o (executed r room′ store′)
+    execute-reads g = subst (λ (a : After). ReadsExactly c room store s o a) (sym call) (read-exactly-when c room store s os o ready g finds)
