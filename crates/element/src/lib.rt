@@ -198,21 +198,13 @@ fn perform_stored(
         Row::GetData => show_data(command, store, at, room),
         Row::GetMetadata => metadata::write_answer(store, at, room),
         Row::Write => {
-            change::write(
-                store,
-                at,
-                command::offset(command),
-                command::sent_data(command),
-            );
+            let from = command::offset(command);
+            change::write(store, at, from, command::sent_data(command));
             response::done(room);
         }
         Row::EraseAndWrite => {
-            change::erase_and_write(
-                store,
-                at,
-                command::offset(command),
-                command::sent_data(command),
-            );
+            let from = command::offset(command);
+            change::erase_and_write(store, at, from, command::sent_data(command));
             response::done(room);
         }
         Row::SetMetadata => {
