@@ -38,7 +38,7 @@ unfolding step judged unanswered
 step-small c room store s = either-small (ltb (length room) 4) _ _ (omega arith) (answered-small _ c room store _ _)
 
 module _ (n : ℕ) (room′ store′ : List ℕ) (s′ : Session) (c store : List ℕ) (s : Session)
-  (e : record { outcome = n; room = room′; store = store′; session = s′ } ≡ step c (zeros 1504) store s) where
+    (e : record { outcome = n; room = room′; store = store′; session = s′ } ≡ step c (zeros 1504) store s) where
   pub outcome-small : n < 16
   outcome-small = rw (ap (λ (a : After). a .outcome) e) (step-small c (zeros 1504) store s)
 
@@ -183,7 +183,7 @@ module _ (input o after : List ℕ) (n : ℕ) (h : 16384 < length input) (p : Pu
   long-bytes = put-bytes (printed input) o after n long-printed
 
 module _ (input o after store : List ℕ) (n : ℕ) (s : Session) (h : length input ≤ 16384) (e : store ≡ factory-made (zeros 6024)) (f : s ≡ fresh-session)
-  (p : Put 0 (lines (length input) input store s) o after n) where
+    (p : Put 0 (lines (length input) input store s) o after n) where
   lines-printed : Put 0 (printed input) o after n
   unfolding printed factory-made
   lines-printed =

@@ -96,7 +96,13 @@ fn put_response(output: &mut [u8], at: usize, room: &[u8]) -> usize
 }
 
 // Carries out a command in a fresh room, and puts its line: outcome, a space, the response.
-fn put_line(output: &mut [u8], at: usize, command: &[u8], store: &mut [u8], session: Session) -> Line
+fn put_line(
+    output: &mut [u8],
+    at: usize,
+    command: &[u8],
+    store: &mut [u8],
+    session: Session,
+) -> Line
     requires { ⌜ at ≤ length (now output) ⌝ }
     ensures { λ r. ⌜ (Put at (answer-line (step (now (command .entry)) (zeros 1504) (now (store .entry)) session)) (now (output .entry)) (now (output .exit)) (r .next)) × (now (store .exit) ≡ step (now (command .entry)) (zeros 1504) (now (store .entry)) session .store) × (r .session ≡ step (now (command .entry)) (zeros 1504) (now (store .entry)) session .session) ⌝ }
 {

@@ -1,0 +1,66 @@
+-- Every list of commands can be laid out for a run.
+use Prim.Native.Nat.{ℕ, zero, suc, _+_, _^_, _<_, min}
+use mathlib.Core.Path.{_≡_, refl, ap}
+use mathlib.Core.List.{List, [], _∷_, _++_, map, flatMap}
+use native.Mathlib.Omega.{arith}
+use lib.ListN.{length, length-append, length-map, length-replicate}
+use lib.Seq.{take-at, drop-at}
+use Rattle.mixing.specs.Runs.{All}
+use Rattle.rules.specs.Basic.{zeros}
+use Rattle.rules.specs.Run.{Turn, Kept}
+use Rattle.runs.specs.Lists.{cut, Given, laid-out, Fitting, InTypes}
+
+-- the commands of the layout are the list's
+cut-back : (ts : List Turn)
+    → cut (length ts) (flatMap (λ (t : Turn). t .command) ts) (map (λ (t : Turn). length (t .command)) ts)
+    (flatMap (λ (t : Turn). t .room) ts) (map (λ (t : Turn). length (t .room)) ts) ≡ ts
+unfolding cut flatMap
+cut-back [] = refl
+cut-back (t ∷ ts) =
+    rw (
+      fit (t .command) (flatMap (λ (t : Turn). t .command) ts),
+      fit (t .room) (flatMap (λ (t : Turn). t .room) ts),
+      take-at (t .command) (flatMap (λ (t : Turn). t .command) ts) (length (t .command)) refl,
+      take-at (t .room) (flatMap (λ (t : Turn). t .room) ts) (length (t .room)) refl,
+      drop-at (t .command) (flatMap (λ (t : Turn). t .command) ts) (length (t .command)) refl,
+      drop-at (t .room) (flatMap (λ (t : Turn). t .room) ts) (length (t .room)) refl,
+    )
+    (ap (λ l. t ∷ l) (cut-back ts))
+  where
+    fit : (a b : List ℕ) → min (length a) (length (a ++ b)) ≡ length a
+    fit a b = omega (arith, length-append a b)
+
+-- bytes end to end are bytes, and their sizes are of the type usize
+all-append : (P : ℕ → Type 0) (a b : List ℕ) → All P a → All P b → All P (a ++ b)
+all-append P [] b p q = q
+all-append P (x ∷ a) b p q = (p .0, all-append P a b (p .1) q)
+
+all-joined : (f : Turn → List ℕ) (ts : List Turn) → All (λ t. All (λ n. n < 256) (f t)) ts → All (λ n. n < 256) (flatMap f ts)
+unfolding flatMap
+all-joined f [] p = tt
+all-joined f (t ∷ ts) p = all-append (λ n. n < 256) (f t) (flatMap f ts) (p .0) (all-joined f ts (p .1))
+
+all-sizes : (f : Turn → List ℕ) (ts : List Turn) → length (flatMap f ts) < 2 ^ 63 → All (λ n. n < 2 ^ 64) (map (λ t. length (f t)) ts)
+unfolding flatMap
+all-sizes f [] h = tt
+all-sizes f (t ∷ ts) h =
+    let l : length (f t ++ flatMap f ts) ≡ length (f t) + length (flatMap f ts) = length-append (f t) (flatMap f ts) in
+    (omega arith, all-sizes f ts (omega arith))
+
+all-zeros : (n : ℕ) → All (λ b. b < 256) (zeros n)
+all-zeros zero = tt
+all-zeros (suc n) = (omega arith, all-zeros n)
+
+-- every list of commands whose bytes are bytes and whose sizes fit: there are buffers, of the parameters' types, whose commands are
+-- exactly these
+pub every-list-laid-out : (ts : List Turn) (k : Kept) → Fitting ts → InTypes (laid-out ts k) × Given ts k (laid-out ts k)
+every-list-laid-out ts k h = (
+  record {
+    commands = record { each = all-joined (λ t. t .command) ts (h .command-bytes); room = h .commands-fit };
+    sizes = record { each = all-sizes (λ t. t .command) ts (h .commands-fit); room = simp length-map (h .count-fits) };
+    rooms = record { each = all-joined (λ t. t .room) ts (h .room-bytes); room = h .rooms-fit };
+    spaces = record { each = all-sizes (λ t. t .room) ts (h .rooms-fit); room = simp length-map (h .count-fits) };
+    outcomes = record { each = all-zeros (length ts); room = simp length-replicate (omega arith) };
+  },
+  record { commands = rw length-replicate (cut-back ts); beginning = refl },
+)

@@ -1,0 +1,3 @@
+pub mod Cutting
+pub mod LaidOut
+pub mod Demand3
