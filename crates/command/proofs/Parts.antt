@@ -10,7 +10,6 @@ use lib.ListN.{length, getD}
 use Rattle.rules.specs.declared.Refusal.{Refusal}
 use Rattle.rules.specs.declared.Row.{Row}
 use Rattle.rules.specs.declared.Session.{Session}
-use Rattle.rules.specs.Basic.{if_then_else_}
 use Rattle.rules.specs.Command.{asks-flush, cmd, param, row-of, row}
 use Rattle.rules.specs.Response.{code}
 use Rattle.rules.specs.Session.{with-error}

@@ -11,7 +11,6 @@ ghost use Prim.Native.Nat.{_+_, _≤_};
 ghost use lib.Dec.{leb};
 ghost use lib.ListN.{length};
 ghost use Rattle.rules.specs.Basic.{same};
-ghost use Rattle.rules.specs.Expression.{is-state};
 ghost use Rattle.rules.specs.Command.{asks-flush, cmd, row-of, row, known-cmd, length-right};
 ghost use Rattle.rules.specs.Command.{object-number, offset, asked-length, sent-data, sent-metadata};
 ghost use Rattle.rules.specs.Refusals.{unsound, ill-sized, unknown-cmd, unusable, unknown-param, wrong-length, other-identifier};

@@ -1,9 +1,9 @@
 -- The demands on one command, of `execute` itself: they follow from its contract and the laws of the rules. A call is told by what it was
 -- lent (command, room, store, session) and what it left (answer, room, store).
 use Prim.Native.Nat.{ℕ, _<_}
-use mathlib.Core.Bool.{Bool, true}
+use mathlib.Core.Bool.{true}
 use mathlib.Core.List.{List}
-use mathlib.Core.Option.{Option, some}
+use mathlib.Core.Option.{some}
 use mathlib.Core.Path.{_≡_, sym, subst, _∙_}
 use lib.ListN.{length}
 use Rattle.rules.specs.declared.Session.{Session}

@@ -1,9 +1,9 @@
 -- What an accepted command does, row by row: at an object of the session and at a found record.
-use Prim.Native.Nat.{ℕ, _+_, _-_, _<_, _≤_}
+use Prim.Native.Nat.{ℕ, _+_, _<_, _≤_}
 use mathlib.Core.Path.{_≡_, refl, sym, ap, _∙_}
-use mathlib.Core.Bool.{Bool, true, false, not, _&&_, _||_, false≢true, and-true, and-false}
+use mathlib.Core.Bool.{Bool, true, false, _&&_, false≢true, and-true, and-false}
 use mathlib.Core.List.{List, [], _∷_}
-use mathlib.Core.Option.{Option, none, some}
+use mathlib.Core.Option.{none}
 use native.Mathlib.Omega.{arith}
 use borrow.Author.Tests.{leb-true, le-leb, lt-leb}
 use lib.Dec.{eqb, leb}
@@ -22,7 +22,7 @@ use Rattle.rules.specs.Metadata.{metadata, metadata-allowed, sent-fields, with-
 use Rattle.rules.specs.Session.{session-object, with-error, with-state}
 use Rattle.rules.specs.Operation.{Operation, put-at, with-content, getting, getting-metadata, writing, setting-metadata, operation}
 use Rattle.rules.specs.Refusals.{late-of}
-use Rattle.rules.proofs.Verdicts.{LatePassed, late-passed}
+use Rattle.rules.proofs.Verdicts.{late-passed}
 use Rattle.rules.proofs.Rows.{gets-or-sets, state-outside, not-error-object}
 use Rattle.store.specs.Places.{object-at, Stored, with-record}
 use Rattle.judge.specs.Targets.{kept}

@@ -1,34 +1,32 @@
 -- From the parts to one command: the ways out of `perform`, `on_object`, `carry_out` and `execute`.
-use Prim.Native.Nat.{ℕ, _+_, _-_, _<_, _≤_}
+use Prim.Native.Nat.{ℕ, _<_, _≤_}
 use mathlib.Core.Path.{_≡_, refl, sym, ap, _∙_}
-use mathlib.Core.Bool.{Bool, true, false, not, _&&_, false≢true}
-use mathlib.Core.List.{List, [], _∷_}
+use mathlib.Core.Bool.{Bool, true, false, false≢true}
+use mathlib.Core.List.{List, []}
 use mathlib.Core.Option.{Option, none, some}
 use native.Mathlib.Omega.{arith}
 use borrow.Author.Tests.{lt-ltb, le-ltb}
-use lib.Dec.{ltb}
 use lib.ListN.{length}
 use Rattle.rules.specs.declared.Session.{Session}
 use Rattle.rules.specs.declared.Found.the-variants as found-at
 use Rattle.rules.specs.declared.Refusal.{Refusal}
-use Rattle.rules.specs.declared.Refusal.the-variants.{InvalidObject}
 use Rattle.rules.specs.declared.Verdict.{Verdict}
 use Rattle.rules.specs.declared.Verdict.the-variants.{Refused, Accepted}
 use Rattle.rules.specs.declared.Row.{Row}
 use Rattle.rules.specs.declared.Row.the-variants.{GetData, GetMetadata, Write, EraseAndWrite, SetMetadata, OpenApplication, CloseApplication, Unknown}
-use Rattle.rules.specs.Basic.{if_then_else_, is-none, is-some, or-else}
-use Rattle.rules.specs.Command.{row, is-unknown, object-number, names-object}
+use Rattle.rules.specs.Basic.{is-some, or-else}
+use Rattle.rules.specs.Command.{row, object-number}
 use Rattle.rules.specs.Response.{code, done-response, refused-response, put-in-front}
-use Rattle.rules.specs.Object.{Object, in-session, object-allowed}
-use Rattle.rules.specs.Layout.{pack, unpack, replaced, found}
+use Rattle.rules.specs.Object.{Object, in-session}
+use Rattle.rules.specs.Layout.{unpack, found}
 use Rattle.rules.specs.Session.{session-object, with-opened}
-use Rattle.rules.specs.Operation.{Operation, getting, getting-metadata, writing, setting-metadata, setting-session, operation, named, no-object, requested}
+use Rattle.rules.specs.Operation.{getting, getting-metadata, writing, setting-session, operation, named, no-object, requested}
 use Rattle.rules.specs.Refusals.{_refused_or_, _and-then_, no-such-object, early, late, late-of, from-nine, verdict}
-use Rattle.rules.specs.Step.{After, raised, declined, stored, performed, answered, judged, flushed, unanswered, step}
+use Rattle.rules.specs.Step.{raised, declined, stored, performed, answered, judged, flushed, unanswered, step}
 use Rattle.rules.proofs.Verdicts.{LatePassed, late-passed, late-accepts, nine-passed}
-use Rattle.rules.proofs.Keeps.{Fitting, operation-fitting}
+use Rattle.rules.proofs.Keeps.{operation-fitting}
 use Rattle.rules.proofs.Rows.{gets-or-sets}
-use Rattle.store.specs.Places.{object-at, Stored, with-record}
+use Rattle.store.specs.Places.{object-at, Stored}
 use Rattle.store.proofs.Standing.{standing}
 use Rattle.store.proofs.Placing.{recorded-there}
 use Rattle.command.specs.InForm.{InForm}

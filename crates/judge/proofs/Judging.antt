@@ -1,9 +1,9 @@
 -- Steps 10 to 13, row by row, at an object of the session and at a found record.
-use Prim.Native.Nat.{ℕ, _+_, _-_, _<_, _≤_}
+use Prim.Native.Nat.{ℕ, _+_}
 use mathlib.Core.Path.{_≡_, refl, sym, ap, _∙_}
-use mathlib.Core.Bool.{Bool, true, false, not, _&&_, _||_, and-false}
+use mathlib.Core.Bool.{Bool, true, false, and-false}
 use mathlib.Core.List.{List, [], _∷_}
-use mathlib.Core.Option.{Option, none, some}
+use mathlib.Core.Option.{some}
 use native.Mathlib.Omega.{arith}
 use borrow.Author.Tests.{leb-true, not-true}
 use lib.Dec.{leb}
@@ -17,13 +17,13 @@ use Rattle.rules.specs.declared.Verdict.the-variants.{Refused}
 use Rattle.rules.specs.declared.Refusal.the-variants.{AccessDenied, InvalidObject}
 use Rattle.rules.specs.declared.Row.{Row}
 use Rattle.rules.specs.declared.Row.the-variants.{GetData, GetMetadata, Write, EraseAndWrite, SetMetadata, OpenApplication, CloseApplication, Unknown}
-use Rattle.rules.specs.Basic.{if_then_else_, all, is-none, is-some, or-else}
+use Rattle.rules.specs.Basic.{if_then_else_, is-some}
 use Rattle.rules.specs.Command.{row, names-object, offset, asked-length, sent-data, sent-metadata}
-use Rattle.rules.specs.Expression.{Expression, always, never, expression, expression-bytes, read-expression, holds, may-become}
+use Rattle.rules.specs.Expression.{always, never, expression, expression-bytes, read-expression, holds, may-become}
 use Rattle.rules.specs.Object.{Object, used, in-session, expression-in, object-allowed}
 use Rattle.rules.specs.Metadata.{metadata, metadata-allowed}
 use Rattle.rules.specs.Session.{session-object}
-use Rattle.rules.specs.Operation.{Operation, getting, getting-metadata, writing, setting-metadata, setting-session, operation, named, no-object, requested}
+use Rattle.rules.specs.Operation.{getting, getting-metadata, writing, setting-metadata, setting-session, operation, named, requested}
 use Rattle.rules.specs.Refusals.{_refused_or_, no-such-object, late, late-of, from-nine}
 use Rattle.rules.proofs.Expressions.{read-bytes}
 use Rattle.rules.proofs.Tests.{at-place}

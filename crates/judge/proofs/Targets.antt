@@ -1,22 +1,21 @@
 -- Which object a command names: the ways out of `find_target`.
 use Prim.Native.Nat.{ℕ}
 use mathlib.Core.Path.{_≡_, refl, sym, ap, _∙_}
-use mathlib.Core.Bool.{Bool, true, false, false≢true}
+use mathlib.Core.Bool.{true, false, false≢true}
 use mathlib.Core.List.{List, []}
 use mathlib.Core.Option.{Option, none, some}
 use borrow.Author.Tests.{ne-eqb}
-use lib.Dec.{eqb}
 use Rattle.rules.specs.declared.Session.{Session}
 use Rattle.rules.specs.declared.Found.{Found}
 use Rattle.rules.specs.declared.Found.the-variants as found-at
-use Rattle.rules.specs.Basic.{if_then_else_, among, is-some, or-else}
+use Rattle.rules.specs.Basic.{among, is-some, or-else}
 use Rattle.rules.specs.Command.{object-number}
 use Rattle.rules.specs.Object.{Object, in-session}
 use Rattle.rules.specs.Layout.{unpack, find, found}
 use Rattle.rules.specs.Session.{session-object, session-objects}
 use Rattle.rules.specs.Operation.{named}
 use Rattle.rules.proofs.Rows.{named-in-store}
-use Rattle.store.specs.Places.{object-at, Stored}
+use Rattle.store.specs.Places.{Stored}
 use Rattle.store.proofs.Placing.{nowhere, finds-it, stored-there}
 use Rattle.judge.specs.declared.Target.the-variants.{InSession, InStore, Nothing}
 use Rattle.judge.specs.Targets.{kept, target-object}

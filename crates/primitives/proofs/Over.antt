@@ -1,11 +1,11 @@
 -- Laws of copies and of bytes put at a place.
-use Prim.Native.Nat.{ℕ, zero, suc, _+_, _-_, _<_, _≤_}
-use mathlib.Core.Path.{_≡_, refl, sym, ap, _∙_}
+use Prim.Native.Nat.{ℕ, suc, _+_, _-_, _<_, _≤_}
+use mathlib.Core.Path.{_≡_, sym, ap, _∙_}
 use mathlib.Core.List.{List, [], _∷_, _++_, append-nil, append-assoc}
-use lib.ListN.{length, getD, take, drop, set, replicate, length-drop, length-take, length-append, length-replicate, drop-of-length-le, replicate-append-replicate}
-use lib.Seq.{drop-drop, drop-cons, take-length, take-suc, set-at, append-snoc, length-take-le, take-at, drop-at, take-all}
+use lib.ListN.{length, getD, take, drop, set, length-drop, length-take, length-append, length-replicate, drop-of-length-le, replicate-append-replicate}
+use lib.Seq.{drop-drop, drop-cons, take-length, take-suc, set-at, append-snoc, length-take-le, take-at, drop-at}
 use native.Mathlib.Omega.{arith}
-use native.Mathlib.Nat.{add-zero, add-sub-cancel-left}
+use native.Mathlib.Nat.{add-sub-cancel-left}
 use native.Mathlib.Numerals.{add-one}
 use Rattle.rules.specs.Basic.{zeros}
 use Rattle.primitives.specs.Bytes.{over}

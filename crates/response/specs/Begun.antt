@@ -1,6 +1,6 @@
 -- A response that is written piece by piece.
 use Prim.Native.Nat.{ℕ}
-use mathlib.Core.List.{List, [], _∷_, _++_}
+use mathlib.Core.List.{List, _∷_, _++_}
 use Rattle.rules.specs.Basic.{high-first}
 use Rattle.primitives.specs.Bytes.{over}
 

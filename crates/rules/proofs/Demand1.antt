@@ -1,9 +1,8 @@
 -- Demand 1 of one command: there is an answer; a refusal has a number of the list and changes only the response and the last error;
 -- with no room for a status nothing changes at all.
-use Prim.Native.Nat.{ℕ, _+_, _≤_, _<_}
-use mathlib.Core.Bool.{Bool, true, false, _&&_, false≢true}
-use mathlib.Core.List.{List, [], _∷_, _++_}
-use mathlib.Core.Option.{Option, none, some}
+use Prim.Native.Nat.{ℕ, _≤_, _<_}
+use mathlib.Core.Bool.{Bool, true, false, false≢true}
+use mathlib.Core.List.{List, []}
 use mathlib.Core.Path.{_≡_, refl, sym, ap, _∙_}
 use native.Mathlib.Omega.{arith}
 use borrow.Author.Tests.{ltb-true, ltb-false, lt-ltb, le-ltb, eqb-true}
@@ -19,11 +18,11 @@ use Rattle.rules.specs.Basic.{if_then_else_, among, or-else}
 use Rattle.rules.specs.Response.{code, done-response, refused-response, put-in-front}
 use Rattle.rules.specs.Object.{Object}
 use Rattle.rules.specs.Layout.{unpack}
-use Rattle.rules.specs.Operation.{Operation, named, requested}
+use Rattle.rules.specs.Operation.{Operation}
 use Rattle.rules.specs.Refusals.{verdict}
 use Rattle.rules.specs.Step.{After, declined, performed, answered, judged, flushed, unanswered, step}
 use Rattle.rules.specs.Demand.{is-done, is-refused, listed, RefusedWith, SomeRefusal, Answered, no-room, refused, done}
-use Rattle.rules.proofs.Tests.{and-left, and-right}
+use Rattle.rules.proofs.Tests.{and-right}
 
 -- every refusal's number is in the list
 pub code-listed : (r : Refusal) → listed (code r) ≡ true

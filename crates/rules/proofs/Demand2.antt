@@ -1,13 +1,13 @@
 -- Demand 2 of one command: a write to a stored object makes its change exactly when the command is well formed, the stored change
 -- condition holds and the content is allowed and fits; a data read shows exactly the stored bytes, only when the read condition holds.
 use Prim.Native.Nat.{ℕ, _+_, _≤_}
-use mathlib.Core.Bool.{Bool, true, false, not, _&&_, _||_, false≢true}
-use mathlib.Core.List.{List, [], _∷_}
-use mathlib.Core.Option.{Option, none, some}
+use mathlib.Core.Bool.{Bool, true, false, not, _&&_, false≢true}
+use mathlib.Core.List.{List, []}
+use mathlib.Core.Option.{none, some}
 use mathlib.Core.Path.{_≡_, refl, sym, ap, _∙_}
 use native.Mathlib.Omega.{arith}
 use borrow.Author.Tests.{leb-true, le-leb, not-true, not-false}
-use lib.Dec.{eqb, leb}
+use lib.Dec.{leb}
 use lib.ListN.{length, take, drop, length-take, length-drop}
 use Rattle.rules.specs.declared.Session.{Session}
 use Rattle.rules.specs.declared.Refusal.{Refusal}
@@ -15,10 +15,10 @@ use Rattle.rules.specs.declared.Row.{Row}
 use Rattle.rules.specs.declared.Row.the-variants.{GetData, GetMetadata, Write, EraseAndWrite, SetMetadata, OpenApplication, CloseApplication, Unknown}
 use Rattle.rules.specs.declared.Verdict.{Verdict}
 use Rattle.rules.specs.declared.Verdict.the-variants.{Refused, Accepted}
-use Rattle.rules.specs.Basic.{if_then_else_, is-none, is-some, or-else}
-use Rattle.rules.specs.Command.{cmd, row, in-length, is-unknown, known-cmd, length-right, names-object, object-number, offset, asked-length, sent-data, sent-metadata}
+use Rattle.rules.specs.Basic.{or-else}
+use Rattle.rules.specs.Command.{row, in-length, length-right, names-object, object-number, offset, asked-length}
 use Rattle.rules.specs.Response.{done-response, put-in-front}
-use Rattle.rules.specs.Expression.{is-state, holds}
+use Rattle.rules.specs.Expression.{holds}
 use Rattle.rules.specs.Object.{Object, used, in-session}
 use Rattle.rules.specs.Layout.{objects-allowed, pack, unpack, find, replaced}
 use Rattle.rules.specs.Operation.{Operation, getting, writing, setting-metadata, operation, named, no-object, requested}
@@ -27,9 +27,9 @@ use Rattle.rules.specs.Step.{After, stored, declined, performed, answere
 use Rattle.rules.specs.Demand.{is-done, Ready, well-formed, writes, content-allowed, changed, MayWrite, WritesExactly, MayRead, ReadsExactly}
 use Rattle.rules.proofs.Tests.{and-left, and-right, and-both}
 use Rattle.rules.proofs.Inverse.{unpack-pack, pack-unpack}
-use Rattle.rules.proofs.Verdicts.{EarlyPassed, LatePassed, Passed, verdict-passed, verdict-accepts}
+use Rattle.rules.proofs.Verdicts.{EarlyPassed, LatePassed, verdict-passed, verdict-accepts}
 use Rattle.rules.proofs.Keeps.{stored-kept}
-use Rattle.rules.proofs.Rows.{row-cmd, gets-or-sets, known-row, row-known, row-opens, named-in-store, stored-outside, state-outside, not-error-object, Flushed, flush-keeps}
+use Rattle.rules.proofs.Rows.{row-cmd, gets-or-sets, known-row, row-known, row-opens, named-in-store, stored-outside, state-outside, not-error-object, flush-keeps}
 use Rattle.rules.proofs.Demand1.{step-judged, declined-not-done, performed-done}
 
 -- writes are among the gets and sets

@@ -1,28 +1,28 @@
 -- Demand 3 of the rules' runs: two lists that name no object in common, mixed in any way, give every command the same reply, and the same
 -- store and session at the end, as one list after the other, whichever goes first.
-use Prim.Native.Nat.{ℕ, _+_, _-_, _≤_, _<_, max}
+use Prim.Native.Nat.{ℕ, _+_, max}
 use mathlib.Core.Bool.{Bool, true, false, not, _&&_, _||_, false≢true}
-use mathlib.Core.List.{List, [], _∷_, _++_, map}
-use mathlib.Core.Logic.{_⊎_, inl, inr, _≢_}
+use mathlib.Core.List.{List, [], _∷_}
+use mathlib.Core.Logic.{inl, inr, _≢_}
 use mathlib.Core.Option.{Option, none, some}
 use mathlib.Core.Path.{_≡_, refl, sym, ap, _∙_}
 use native.Mathlib.Omega.{arith}
-use borrow.Author.Tests.{eqb-true, eqb-false, ne-eqb, eq-eqb, leb-true, le-leb, not-true, not-false, ltb-false}
-use lib.Dec.{eqb, ltb, leb}
+use borrow.Author.Tests.{eqb-true, ne-eqb, le-leb, not-false, ltb-false}
+use lib.Dec.{eqb, ltb}
 use lib.ListN.{length, drop, length-drop}
 use Rattle.mixing.specs.Runs.{Mix, Mixed, All}
-use Rattle.mixing.specs.Cells.{Put, Ruling, State, Machine, puts, repacked, ruling, store-after, answer, after}
+use Rattle.mixing.specs.Cells.{Put, Ruling, Machine, puts, repacked, ruling, store-after, answer, after}
 use Rattle.mixing.proofs.Commute.{Agree, mixed-agree}
 use Rattle.mixing.proofs.Frame.{Lawful, Local, AllAt}
-use Rattle.mixing.proofs.Feet.{Feet, FootAt, mixing}
+use Rattle.mixing.proofs.Feet.{Feet, mixing}
 use Rattle.rules.specs.declared.Session.{Session}
 use Rattle.rules.specs.declared.Refusal.{Refusal}
 use Rattle.rules.specs.declared.Row.{Row}
 use Rattle.rules.specs.declared.Row.the-variants.{GetData, GetMetadata, Write, EraseAndWrite, SetMetadata, OpenApplication, CloseApplication, Unknown}
 use Rattle.rules.specs.declared.Verdict.{Verdict}
 use Rattle.rules.specs.declared.Verdict.the-variants.{Refused, Accepted}
-use Rattle.rules.specs.Basic.{if_then_else_, among, is-some, or-else}
-use Rattle.rules.specs.Command.{asks-flush, cmd, row, in-length, in-data, is-unknown, length-right, names-object, object-number}
+use Rattle.rules.specs.Basic.{if_then_else_, among, or-else}
+use Rattle.rules.specs.Command.{row, in-length, in-data, object-number}
 use Rattle.rules.specs.Response.{code, done-response, refused-response, put-in-front}
 use Rattle.rules.specs.Expression.{holds}
 use Rattle.rules.specs.Object.{Object, in-session}
@@ -33,11 +33,11 @@ use Rattle.rules.specs.Refusals.{_refused_or_, _and-then_, unsound, ill-
 use Rattle.rules.specs.Step.{After, raised, stored, declined, performed, answered, judged, flushed, unanswered, step}
 use Rattle.rules.specs.Run.{Turn, Reply, Kept, reply, left}
 use Rattle.rules.specs.Demand.{reads-or-writes, object-of, Plain, Names, TwoLists}
-use Rattle.rules.proofs.Tests.{and-left, and-right, or-parts}
+use Rattle.rules.proofs.Tests.{or-parts}
 use Rattle.rules.proofs.Inverse.{unpack-pack, pack-unpack}
-use Rattle.rules.proofs.Places.{Stands, found}
+use Rattle.rules.proofs.Places.{found}
 use Rattle.rules.proofs.Verdicts.{LatePassed, both-accepted, early-passed, nine-passed}
-use Rattle.rules.proofs.Keeps.{Fitting, operation-fitting, operation-kept, middle-allowed, each-allowed}
+use Rattle.rules.proofs.Keeps.{operation-fitting, operation-kept, middle-allowed, each-allowed}
 use Rattle.rules.proofs.Rows.{gets-or-sets, row-gets-or-sets, names-in-full, named-in-store, stored-outside, state-outside, not-error-object, holds-error}
 
 -- objects under numbers ----------------------------------------------------------------------------------------------------

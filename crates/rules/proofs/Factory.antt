@@ -1,14 +1,12 @@
 -- The factory store is sound, and 6,024 bytes long.
-use Prim.Native.Nat.{ℕ}
-use mathlib.Core.Bool.{Bool, true}
-use mathlib.Core.List.{List}
-use mathlib.Core.Option.{Option, some}
+use mathlib.Core.Bool.{true}
+use mathlib.Core.Option.{some}
 use mathlib.Core.Path.{_≡_, refl, _∙_}
 use lib.ListN.{length}
 use Rattle.rules.specs.Basic.{all, among, rising, rising-from}
 use Rattle.rules.specs.Expression.{is-state, condition-allowed, group-allowed, groups-allowed, group-size, conditions, groups, expression-allowed}
 use Rattle.rules.specs.Object.{in-session, object-allowed, all-allowed}
-use Rattle.rules.specs.Layout.{size, objects-allowed, pack, unpack}
+use Rattle.rules.specs.Layout.{size, objects-allowed, unpack}
 use Rattle.rules.specs.Factory.{entry, table, before-operational, made, factory-objects, factory-store}
 use Rattle.rules.proofs.Inverse.{unpack-pack}
 use Rattle.rules.proofs.Places.{pack-length}

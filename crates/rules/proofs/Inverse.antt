@@ -1,19 +1,18 @@
 -- `pack` and `unpack` are inverse: a store is well formed exactly where it is the packing of allowed objects, and of these ones alone.
-use Prim.Native.Nat.{ℕ, zero, suc, _+_, _*_, _-_, _/_, _%_, _≤_, _<_}
-use mathlib.Core.Bool.{Bool, true, false, not, _&&_, false≢true}
-use mathlib.Core.List.{List, [], _∷_, _++_, append-assoc, map}
-use mathlib.Core.Option.{Option, none, some}
+use Prim.Native.Nat.{ℕ, zero, suc, _+_, _*_, _-_, _/_, _%_, _≤_}
+use mathlib.Core.Bool.{Bool, true, false, _&&_}
+use mathlib.Core.List.{List, [], _∷_, _++_, append-assoc}
+use mathlib.Core.Option.{none, some}
 use mathlib.Core.Path.{_≡_, refl, sym, ap, _∙_}
 use native.Mathlib.Nat.{mod-add-div, not-suc-le-zero, le-of-suc-le-suc}
 use native.Mathlib.Omega.{arith}
 use borrow.Author.Tests.{leb-true}
-use lib.Dec.{leb, ltb}
 use lib.ListN.{length, length-append, length-replicate, take, drop}
 use lib.Seq.{take-at, drop-at, drop-drop}
-use Rattle.rules.specs.Basic.{if_then_else_, all, same, joined, zeros, low-first, low-at, rising}
-use Rattle.rules.specs.Expression.{Expression, expression-bytes, read-expression, expression-allowed, is-state}
+use Rattle.rules.specs.Basic.{if_then_else_, all, same, zeros, low-at}
+use Rattle.rules.specs.Expression.{Expression, expression-bytes, read-expression, expression-allowed}
 use Rattle.rules.specs.Object.{Object, used, object-allowed, all-allowed}
-use Rattle.rules.specs.Layout.{slot-size, slots-at, head-size, record-size, objects-allowed, slot-of, slot, record-bytes, pack, read-slot, read-record, read-records, unpack}
+use Rattle.rules.specs.Layout.{slot-size, record-size, objects-allowed, slot-of, slot, record-bytes, pack, read-slot, read-record, read-records, unpack}
 use Rattle.rules.proofs.Tests.{and-left, and-right, at-place, same-refl, same-eq}
 use Rattle.rules.proofs.Expressions.{expression-length, read-bytes}
 

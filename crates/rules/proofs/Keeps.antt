@@ -1,34 +1,33 @@
 -- A command keeps a sound store sound, the store as long as it was, and the room as long as it was.
-use Prim.Native.Nat.{ℕ, _+_, _-_, _≤_}
-use mathlib.Core.Bool.{Bool, true, false, not, _&&_, _||_, false≢true}
-use mathlib.Core.List.{List, [], _∷_, _++_, map}
+use Prim.Native.Nat.{ℕ, _+_, _≤_}
+use mathlib.Core.Bool.{Bool, true, false, not, _&&_, false≢true}
+use mathlib.Core.List.{List, [], _∷_, _++_}
 use mathlib.Core.Option.{Option, none, some}
 use mathlib.Core.Path.{_≡_, refl, sym, ap, _∙_}
 use native.Mathlib.Omega.{arith}
 use borrow.Author.Tests.{leb-true, le-leb, ltb-false, eqb-true, not-true}
 use lib.Dec.{eqb, ltb, leb}
-use lib.ListN.{length, length-append, length-take, length-drop, length-replicate, getD, take, drop}
+use lib.ListN.{length, length-append, length-take, length-drop, length-replicate, getD}
 use Rattle.rules.specs.declared.Session.{Session}
 use Rattle.rules.specs.declared.Row.{Row}
 use Rattle.rules.specs.declared.Row.the-variants.{GetData, GetMetadata, Write, EraseAndWrite, SetMetadata, OpenApplication, CloseApplication, Unknown}
-use Rattle.rules.specs.declared.Refusal.{Refusal}
 use Rattle.rules.specs.declared.Verdict.{Verdict}
 use Rattle.rules.specs.declared.Verdict.the-variants.{Refused, Accepted}
-use Rattle.rules.specs.Basic.{if_then_else_, all, among, same, rising, zeros, or-else}
+use Rattle.rules.specs.Basic.{if_then_else_, among, same, rising, or-else}
 use Rattle.rules.specs.Command.{row, object-number, offset, sent-data, sent-metadata}
 use Rattle.rules.specs.Response.{done-response, refused-response, put-in-front}
 use Rattle.rules.specs.Expression.{Expression, always, never, expression, expression-allowed, expression-bytes, read-expression, is-state, may-become, holds}
 use Rattle.rules.specs.Object.{Object, used, in-session, object-allowed, all-allowed}
-use Rattle.rules.specs.Layout.{record-size, size, objects-allowed, pack, unpack, find, replaced}
+use Rattle.rules.specs.Layout.{size, objects-allowed, pack, unpack, find, replaced}
 use Rattle.rules.specs.Metadata.{Field, field-allowed, fields-allowed, value-of, sent-state, sent-expression, with-fields, metadata-allowed, sent-fields}
 use Rattle.rules.specs.Session.{session-object, session-objects}
-use Rattle.rules.specs.Operation.{put-at, with-content, Operation, getting, getting-metadata, writing, setting-metadata, setting-session, operation, named, no-object, requested}
+use Rattle.rules.specs.Operation.{put-at, with-content, getting, getting-metadata, writing, setting-metadata, setting-session, operation, named, no-object, requested}
 use Rattle.rules.specs.Refusals.{unsound, verdict}
 use Rattle.rules.specs.Step.{After, stored, performed, declined, answered, judged, flushed, unanswered, step}
 use Rattle.rules.proofs.Tests.{and-left, and-right, at-place}
 use Rattle.rules.proofs.Inverse.{unpack-pack, pack-unpack}
 use Rattle.rules.proofs.Places.{numbers, found, Stands, replaced-at, pack-length}
-use Rattle.rules.proofs.Verdicts.{LatePassed, Passed, verdict-passed}
+use Rattle.rules.proofs.Verdicts.{Passed, verdict-passed}
 
 -- one object changed ----------------------------------------------------------------------------------------------------
 

@@ -1,18 +1,17 @@
 -- An object's metadata, read back without C4 and C5, is allowed content and changes nothing in the object.
-use Prim.Native.Nat.{ℕ, zero, suc, _+_, _≤_, _<_}
-use mathlib.Core.Bool.{Bool, true, false, not, _&&_}
-use mathlib.Core.List.{List, [], _∷_, _++_, append-nil}
-use mathlib.Core.Option.{Option, none, some}
-use mathlib.Core.Path.{_≡_, refl, sym, ap, _∙_}
-use native.Mathlib.Nat.{not-suc-le-zero, le-of-suc-le-suc, le-refl}
+use Prim.Native.Nat.{ℕ, zero, suc, _≤_}
+use mathlib.Core.Bool.{true}
+use mathlib.Core.List.{List, [], _∷_}
+use mathlib.Core.Option.{some}
+use mathlib.Core.Path.{_≡_, refl}
+use native.Mathlib.Nat.{not-suc-le-zero, le-of-suc-le-suc}
 use native.Mathlib.Omega.{arith}
 use borrow.Author.Tests.{le-leb}
-use lib.Dec.{eqb, ltb, leb}
-use lib.ListN.{length, getD, take, drop}
+use lib.ListN.{length}
 use lib.Seq.{take-append-seam, drop-append-seam}
-use Rattle.rules.specs.Basic.{if_then_else_, all, among, same, rising, rising-from, is-none, or-else}
-use Rattle.rules.specs.Expression.{Expression, expression, expression-bytes, expression-allowed, is-state, may-become}
-use Rattle.rules.specs.Object.{Object, used, object-allowed}
+use Rattle.rules.specs.Basic.{all, among, rising, rising-from}
+use Rattle.rules.specs.Expression.{expression, expression-bytes, is-state, may-become}
+use Rattle.rules.specs.Object.{Object, object-allowed}
 use Rattle.rules.specs.Metadata.{Field, field, fields-bytes, led-by-20, read-fields, sent-fields, field-allowed, fields-allowed, metadata-allowed}
 use Rattle.rules.specs.Metadata.{object-fields, value-of, sent-state, sent-expression, with-fields}
 use Rattle.rules.specs.Demand.{without-sizes}

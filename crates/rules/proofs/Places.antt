@@ -1,17 +1,16 @@
 -- Where an object stands in the store: finding it splits the objects, and replacing it changes its record alone.
-use Prim.Native.Nat.{ℕ, zero, suc, _+_, _≤_, _<_}
-use mathlib.Core.Bool.{Bool, true, false, _&&_, false≢true}
+use Prim.Native.Nat.{ℕ, _+_, _≤_, _<_}
+use mathlib.Core.Bool.{Bool, true, false}
 use mathlib.Core.List.{List, [], _∷_, _++_, append-assoc, map}
-use mathlib.Core.Option.{Option, none, some}
+use mathlib.Core.Option.{some}
 use mathlib.Core.Path.{_≡_, refl, sym, ap, _∙_}
-use native.Mathlib.Nat.{le-trans}
 use native.Mathlib.Omega.{arith}
 use borrow.Author.Tests.{ltb-true, eqb-true, eq-eqb, ne-eqb}
 use lib.Dec.{eqb, ltb}
 use lib.ListN.{length, length-append}
 use Rattle.rules.specs.Basic.{if_then_else_, rising-from, rising}
 use Rattle.rules.specs.Object.{Object, object-allowed, all-allowed}
-use Rattle.rules.specs.Layout.{record-size, size, record-bytes, pack, find, replaced}
+use Rattle.rules.specs.Layout.{size, record-bytes, pack, find, replaced}
 use Rattle.rules.proofs.Tests.{and-left, and-right}
 use Rattle.rules.proofs.Inverse.{allowed-fits, record-length}
 

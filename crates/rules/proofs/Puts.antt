@@ -1,6 +1,6 @@
 -- Bytes put at an offset, byte by byte: the bytes sent stand at the offset, all others stay, a gap reads as zero, and used becomes the
 -- larger of used and offset + length.
-use Prim.Native.Nat.{ℕ, zero, suc, _+_, _-_, _≤_, _<_, max}
+use Prim.Native.Nat.{ℕ, zero, suc, _+_, _-_, _<_, max}
 use mathlib.Core.List.{List, [], _∷_, _++_, append-assoc}
 use mathlib.Core.Path.{_≡_, refl, sym, ap, _∙_}
 use native.Mathlib.Omega.{arith}

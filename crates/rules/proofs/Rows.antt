@@ -1,8 +1,8 @@
 -- Which Cmd each row has, and which objects a command can name.
 use Prim.Native.Nat.{ℕ, _≤_}
-use mathlib.Core.Bool.{Bool, true, false, not, _&&_, _||_, false≢true}
-use mathlib.Core.List.{List, [], _∷_, _++_}
-use mathlib.Core.Option.{Option, none, some}
+use mathlib.Core.Bool.{Bool, true, false, not, _&&_, false≢true}
+use mathlib.Core.List.{List, [], _∷_}
+use mathlib.Core.Option.{none, some}
 use mathlib.Core.Path.{_≡_, refl, sym, ap, _∙_}
 use native.Mathlib.Omega.{arith}
 use borrow.Author.Tests.{eqb-true, leb-true, not-true}
@@ -10,16 +10,16 @@ use lib.Dec.{eqb}
 use Rattle.rules.specs.declared.Session.{Session}
 use Rattle.rules.specs.declared.Row.{Row}
 use Rattle.rules.specs.declared.Row.the-variants.{GetData, GetMetadata, Write, EraseAndWrite, SetMetadata, OpenApplication, CloseApplication, Unknown}
-use Rattle.rules.specs.Basic.{if_then_else_, all, among}
+use Rattle.rules.specs.Basic.{if_then_else_, among}
 use Rattle.rules.specs.Command.{asks-flush, cmd, param, row-of, row, is-unknown, known-cmd, length-right, names-object, object-number}
-use Rattle.rules.specs.Object.{Object, in-session, object-allowed, all-allowed}
+use Rattle.rules.specs.Object.{Object, in-session, object-allowed}
 use Rattle.rules.specs.Layout.{objects-allowed, find}
 use Rattle.rules.specs.Session.{session-object, session-objects, with-error, with-state}
-use Rattle.rules.specs.Expression.{Expression, Condition, Group, just, _and_, Groups, only, _or_, always, never, when, present, condition-holds, group-holds, groups-hold, holds}
+use Rattle.rules.specs.Expression.{Expression, Group, just, _and_, Groups, only, _or_, always, never, when, present, condition-holds, group-holds, groups-hold, holds}
 use Rattle.rules.specs.Operation.{named}
 use Rattle.rules.specs.Step.{flushed}
 use Rattle.rules.proofs.Tests.{and-left, or-parts, at-place}
-use Rattle.rules.proofs.Places.{Stands, found}
+use Rattle.rules.proofs.Places.{found}
 use Rattle.rules.proofs.Keeps.{middle-allowed, each-allowed}
 
 -- rows -----------------------------------------------------------------------------------------------------------------

@@ -1,31 +1,29 @@
 -- The send-back case: where an object's change expression holds, its metadata read back, without C4 and C5, may be sent in and changes
 -- nothing.
-use Prim.Native.Nat.{ℕ, _+_, _*_, _-_, _/_, _%_, _≤_, _<_}
-use mathlib.Core.Bool.{Bool, true, false, not, _&&_, _||_}
-use mathlib.Core.List.{List, [], _∷_, _++_}
-use mathlib.Core.Option.{Option, none, some}
+use Prim.Native.Nat.{ℕ, _+_, _*_, _-_, _/_, _%_, _≤_}
+use mathlib.Core.Bool.{true}
+use mathlib.Core.List.{List, [], _∷_}
+use mathlib.Core.Option.{some}
 use mathlib.Core.Path.{_≡_, refl, sym, ap, _∙_}
 use native.Mathlib.Nat.{mod-add-div}
 use native.Mathlib.Omega.{arith}
 use borrow.Author.Tests.{le-ltb, eq-eqb, le-leb}
-use lib.Dec.{eqb, ltb, leb}
 use lib.ListN.{length, length-append}
 use Rattle.rules.specs.declared.Session.{Session}
 use Rattle.rules.specs.declared.Row.the-variants.{SetMetadata}
-use Rattle.rules.specs.Basic.{if_then_else_, rising, high-at}
 use Rattle.rules.specs.Command.{asks-flush, cmd, param, row-of, row, in-length, in-data, length-right, object-number, sent-metadata}
 use Rattle.rules.specs.Response.{done-response, put-in-front}
-use Rattle.rules.specs.Expression.{Expression, expression-bytes, expression-allowed, most-conditions, holds}
+use Rattle.rules.specs.Expression.{most-conditions, holds}
 use Rattle.rules.specs.Object.{Object, object-allowed}
 use Rattle.rules.specs.Layout.{objects-allowed, pack, find, replaced}
-use Rattle.rules.specs.Metadata.{field, fields-bytes, object-fields, led-by-20, sent-fields, metadata-allowed, with-fields}
+use Rattle.rules.specs.Metadata.{field, fields-bytes, led-by-20, sent-fields, metadata-allowed, with-fields}
 use Rattle.rules.specs.Refusals.{ill-sized}
 use Rattle.rules.specs.Step.{flushed, step}
-use Rattle.rules.specs.Demand.{Ready, well-formed, writes, content-allowed, changed, MayWrite, WritesExactly, without-sizes, sent-back}
-use Rattle.rules.proofs.Tests.{and-both, at-place}
+use Rattle.rules.specs.Demand.{Ready, well-formed, writes, content-allowed, changed, sent-back}
+use Rattle.rules.proofs.Tests.{at-place}
 use Rattle.rules.proofs.Expressions.{expression-length}
 use Rattle.rules.proofs.Inverse.{Fits, allowed-fits, pack-unpack}
-use Rattle.rules.proofs.Places.{Stands, found, numbers, replaced-at}
+use Rattle.rules.proofs.Places.{found, numbers, replaced-at}
 use Rattle.rules.proofs.Keeps.{middle-allowed, each-allowed}
 use Rattle.rules.proofs.Metadata.{own-fields, own-read-back, own-sent, own-allowed, own-changes-nothing}
 use Rattle.rules.proofs.Demand2.{write-exactly-when}

@@ -1,7 +1,7 @@
 -- The demands' own words about one command and about two lists.
 use Prim.Native.Nat.{ℕ, _+_, _/_, _%_, _≤_, _<_}
 use mathlib.Core.Bool.{Bool, true, false, not, _&&_}
-use mathlib.Core.List.{List, [], _∷_, _++_}
+use mathlib.Core.List.{List, [], _∷_}
 use mathlib.Core.Logic.{_⊎_}
 use mathlib.Core.Option.{Option, none, some}
 use mathlib.Core.Path.{_≡_}
@@ -13,11 +13,11 @@ use Rattle.rules.specs.declared.Refusal.{Refusal}
 use Rattle.rules.specs.declared.Row.{Row}
 use Rattle.rules.specs.declared.Row.the-variants.{GetData, GetMetadata, Write, EraseAndWrite, SetMetadata, OpenApplication, CloseApplication, Unknown}
 use Rattle.rules.specs.Basic.{if_then_else_, among}
-use Rattle.rules.specs.Command.{asks-flush, cmd, row, in-length, names-object, object-number, offset, asked-length, sent-data, sent-metadata, length-right}
+use Rattle.rules.specs.Command.{asks-flush, row, in-length, names-object, object-number, offset, asked-length, sent-data, sent-metadata, length-right}
 use Rattle.rules.specs.Response.{code, done-response, refused-response, put-in-front}
 use Rattle.rules.specs.Expression.{is-state, holds}
 use Rattle.rules.specs.Object.{Object, used, in-session}
-use Rattle.rules.specs.Layout.{unpack, pack, find, replaced}
+use Rattle.rules.specs.Layout.{unpack, pack, replaced}
 use Rattle.rules.specs.Metadata.{Field, fields-bytes, object-fields, led-by-20, metadata-allowed, sent-fields, with-fields}
 use Rattle.rules.specs.Operation.{put-at, with-content}
 use Rattle.rules.specs.Refusals.{ill-sized}

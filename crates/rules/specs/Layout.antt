@@ -1,7 +1,7 @@
 -- The store's bytes: `pack` lays objects out as records end to end, `unpack` reads them back. What is not the packing of
 -- allowed objects is malformed.
 use Prim.Native.Nat.{ℕ, zero, suc, _+_, _*_, _-_}
-use mathlib.Core.Bool.{Bool, true, false, _&&_}
+use mathlib.Core.Bool.{Bool, _&&_}
 use mathlib.Core.List.{List, [], _∷_, _++_, map}
 use mathlib.Core.Option.{Option, none, some}
 use lib.Dec.{eqb, leb}

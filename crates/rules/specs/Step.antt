@@ -1,6 +1,5 @@
 -- One command: step 1, the flush, the verdict of the steps 2 to 13, and what comes of it.
 use Prim.Native.Nat.{ℕ, max}
-use mathlib.Core.Bool.{Bool, true, false}
 use mathlib.Core.List.{List, []}
 use mathlib.Core.Option.{Option, none, some}
 use lib.Dec.{ltb}
