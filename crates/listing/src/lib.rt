@@ -4,11 +4,10 @@ ghost use mathlib.Core.Path.{_≡_};
 ghost use mathlib.Core.List.{[], _∷_};
 ghost use Prim.Native.Nat.{_<_, _≤_};
 ghost use lib.ListN.{length};
-ghost use Rattle.rules.specs.Basic.{zeros};
 ghost use Rattle.rules.specs.Program.{digit, upper-hex, line, response-in, answer-line, lines, printed};
 ghost use Rattle.rules.specs.Hex.{ascii};
-ghost use Rattle.rules.specs.Step.{step};
 ghost use Rattle.listing.specs.Text.{in-front, fitting, Put};
+ghost use Rattle.listing.specs.Line.{after};
 
 // The most bytes of a list.
 const LONGEST: usize = 16384;
@@ -63,7 +62,7 @@ pub fn put_text(output: &mut [u8], at: usize, text: &[u8]) -> usize
     at + n
 }
 
-// The two digits of a byte.
+// The two digits of a byte, and those of each of some bytes.
 fn put_pair(output: &mut [u8], at: usize, byte: u8) -> usize
     requires { ⌜ at ≤ length (now output) ⌝ }
     ensures { λ r. ⌜ Put at (upper-hex (byte ∷ [])) (now (output .entry)) (now (output .exit)) r ⌝ }
@@ -104,7 +103,8 @@ fn put_line(
     session: Session,
 ) -> Line
     requires { ⌜ at ≤ length (now output) ⌝ }
-    ensures { λ r. ⌜ (Put at (answer-line (step (now (command .entry)) (zeros 1504) (now (store .entry)) session)) (now (output .entry)) (now (output .exit)) (r .next)) × (now (store .exit) ≡ step (now (command .entry)) (zeros 1504) (now (store .entry)) session .store) × (r .session ≡ step (now (command .entry)) (zeros 1504) (now (store .entry)) session .session) ⌝ }
+    ensures line { λ r. ⌜ Put at (answer-line (after (now (command .entry)) (now (store .entry)) session)) (now (output .entry)) (now (output .exit)) (r .next) ⌝ }
+    ensures left { λ r. ⌜ (now (store .exit) ≡ after (now (command .entry)) (now (store .entry)) session .store) × (r .session ≡ after (now (command .entry)) (now (store .entry)) session .session) ⌝ }
 {
     let mut room = [0u8; ROOM];
     let answer = element::execute(command, store, session, &mut room);

@@ -3,49 +3,34 @@ use Rattle.listing.proofs.Texts.{fitting-within, fitting-count}
 use borrow.Author.Needs.{needs}
 use Rattle.bench.proofs.run.Statement.{statement}
 use Rattle.bench.proofs.run.Tie as tie
-use Rattle.bench.proofs.run.Reads as reads
-use Rattle.bench.proofs.run.Lts as lts
-use Rattle.io.proofs.read_full.Reads as read-full-reads
-use Rattle.io.proofs.write_all.Reads as write-all-reads
-use Rattle.listing.proofs.print_all.Reads as print-all-reads
 
--- src/main.rt:13:41
 slice-aggregate-read-full : tie.Need-slice-aggregate-read-full
 slice-aggregate-read-full c = search needs
 
--- src/main.rt:13:9
 read-full-requires : tie.Need-read-full-requires
 read-full-requires c κs = search needs
 
--- src/main.rt:14:36
 array-share-prefix-input : tie.Need-array-share-prefix-input
 array-share-prefix-input c = search needs
 
--- src/main.rt:14:36
 slice-aggregate-print-all : tie.Need-slice-aggregate-print-all
 slice-aggregate-print-all c = search needs
 
--- src/main.rt:14:9
 print-all-requires : tie.Need-print-all-requires
 print-all-requires c κs = search needs
 
--- src/main.rt:15:34
 slice-reshare-prefix-write-all : tie.Need-slice-reshare-prefix-write-all
 slice-reshare-prefix-write-all c = search fitting-within
 
--- src/main.rt:15:34
 slice-aggregate-write-all : tie.Need-slice-aggregate-write-all
 slice-aggregate-write-all c = search fitting-count
 
--- src/main.rt:15:5
 write-all-requires : tie.Need-write-all-requires
 write-all-requires c κs = search needs
 
--- src/main.rt:11:1
 same-length : tie.Need-same-length
 same-length c = search needs
 
--- src/main.rt:11:1
 returns : tie.Need-returns
 returns c = search needs
 

@@ -1,3 +1,4 @@
+-- `command::asked_length` meets its contract.
 use Rattle.rules.specs.Command.{asked-length}
 use borrow.Author.Needs.{needs}
 use Rattle.command.proofs.asked_length.Statement.{statement}

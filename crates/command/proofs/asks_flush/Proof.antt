@@ -1,3 +1,4 @@
+-- `command::asks_flush` meets its contract.
 use mathlib.Core.Path.{refl}
 use Rattle.rules.specs.Command.{asks-flush}
 use Rattle.command.proofs.Parts.{empty-flush}

@@ -1,3 +1,4 @@
+-- `command::cmd` meets its contract.
 use Rattle.rules.specs.Command.{cmd}
 use borrow.Author.Needs.{needs}
 use Rattle.command.proofs.cmd.Statement.{statement}

@@ -1,3 +1,4 @@
+-- `command::code` meets its contract.
 use Rattle.rules.specs.Response.{code}
 use Rattle.command.proofs.Parts.{code-by}
 use borrow.Author.Needs.{needs}

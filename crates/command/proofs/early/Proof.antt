@@ -1,3 +1,4 @@
+-- `command::early` meets its contract.
 use Rattle.rules.specs.Refusals.{early}
 use Rattle.command.proofs.Tests.{steps}
 use Rattle.command.proofs.Steps.{sized}

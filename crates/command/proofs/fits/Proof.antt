@@ -1,3 +1,4 @@
+-- `command::fits` meets its contract.
 use Rattle.command.proofs.Parts.{past-limit, up-to-limit}
 use Rattle.command.proofs.fits.Statement.{statement}
 use Rattle.command.proofs.fits.Tie as tie

@@ -1,3 +1,4 @@
+-- `command::flushed` meets its contract.
 use Rattle.command.proofs.Parts.{flushes, keeps-error}
 use borrow.Author.Needs.{needs}
 use Rattle.command.proofs.flushed.Statement.{statement}

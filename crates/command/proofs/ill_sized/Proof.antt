@@ -1,3 +1,4 @@
+-- `command::ill_sized` meets its contract.
 use Rattle.command.proofs.Steps.{too-short, too-long, size-told}
 use borrow.Author.Needs.{needs}
 use Rattle.command.proofs.ill_sized.Statement.{statement}

@@ -1,3 +1,4 @@
+-- `command::known_cmd` meets its contract.
 use Rattle.rules.specs.Basic.{among}
 use Rattle.rules.specs.Command.{known-cmd}
 use Rattle.command.proofs.Tests.{alternatives}

@@ -1,3 +1,4 @@
+-- `command::late` meets its contract.
 use Rattle.rules.specs.Refusals.{late}
 use Rattle.command.proofs.Parts.{late-steps}
 use borrow.Author.Needs.{needs}

@@ -1,3 +1,4 @@
+-- `command::length_right` meets its contract.
 use Rattle.rules.specs.Command.{length-right}
 use Rattle.command.proofs.Steps.{right-by}
 use borrow.Author.Needs.{needs}

@@ -1,3 +1,4 @@
+-- `command::object_number` meets its contract.
 use Rattle.rules.specs.Command.{object-number}
 use borrow.Author.Needs.{needs}
 use Rattle.command.proofs.object_number.Statement.{statement}

@@ -1,3 +1,4 @@
+-- `command::offset` meets its contract.
 use Rattle.rules.specs.Command.{offset}
 use borrow.Author.Needs.{needs}
 use Rattle.command.proofs.offset.Statement.{statement}

@@ -1,3 +1,4 @@
+-- `command::other_identifier` meets its contract.
 use Rattle.command.proofs.Steps.{opens-with, no-open, the-identifier}
 use borrow.Author.Needs.{needs}
 use Rattle.command.proofs.other_identifier.Statement.{statement}

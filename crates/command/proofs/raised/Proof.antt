@@ -1,3 +1,4 @@
+-- `command::raised` meets its contract.
 use Rattle.command.proofs.Parts.{raised-new, raised-old}
 use borrow.Author.Needs.{needs}
 use Rattle.command.proofs.raised.Statement.{statement}

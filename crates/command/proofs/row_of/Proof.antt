@@ -1,3 +1,4 @@
+-- `command::row_of` meets its contract.
 use Rattle.rules.specs.Command.{row-of}
 use Rattle.command.proofs.Tests.{choices}
 use borrow.Author.Needs.{needs}

@@ -1,3 +1,4 @@
+-- `command::row_of_command` meets its contract.
 use Rattle.command.proofs.Parts.{row-by}
 use borrow.Author.Needs.{needs}
 use Rattle.command.proofs.row_of_command.Statement.{statement}

@@ -1,3 +1,4 @@
+-- `command::sent_data` meets its contract.
 use borrow.Rule.Slice.PartAt.{part-to-end}
 use Rattle.rules.specs.Command.{sent-data}
 use borrow.Author.Needs.{needs}

@@ -1,3 +1,4 @@
+-- `command::unknown_cmd` meets its contract.
 use Rattle.command.proofs.Steps.{unknown-told}
 use borrow.Author.Needs.{needs}
 use Rattle.command.proofs.unknown_cmd.Statement.{statement}

@@ -1,3 +1,4 @@
+-- `command::unknown_param` meets its contract.
 use Rattle.rules.specs.Command.{is-unknown}
 use Rattle.command.proofs.Steps.{param-told, param-known}
 use borrow.Author.Needs.{needs}

@@ -1,3 +1,4 @@
+-- `command::unsound` meets its contract.
 use Rattle.command.proofs.Steps.{store-malformed, lcsg-malformed, lcsa-decides}
 use borrow.Author.Needs.{needs}
 use Rattle.command.proofs.unsound.Statement.{statement}

@@ -1,3 +1,4 @@
+-- `command::unusable` meets its contract.
 use Rattle.command.proofs.Steps.{terminated, usable, closed-told}
 use borrow.Author.Needs.{needs}
 use Rattle.command.proofs.unusable.Statement.{statement}

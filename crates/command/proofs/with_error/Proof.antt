@@ -1,3 +1,4 @@
+-- `command::with_error` meets its contract.
 use mathlib.Core.Path.{refl}
 use Rattle.rules.specs.Session.{with-error}
 use Rattle.command.proofs.with_error.Statement.{statement}

@@ -1,3 +1,4 @@
+-- `command::wrong_length` meets its contract.
 use Rattle.command.proofs.Steps.{length-told}
 use borrow.Author.Needs.{needs}
 use Rattle.command.proofs.wrong_length.Statement.{statement}

@@ -1,16 +1,9 @@
+-- `element::carry_out` meets its contract.
 use Rattle.element.proofs.Whole.{accepted-form, accepted-early, accepted-sound, application-by}
 use Rattle.command.proofs.InForm.{row-long}
 use borrow.Author.Needs.{needs}
 use Rattle.element.proofs.carry_out.Statement.{statement}
 use Rattle.element.proofs.carry_out.Tie as tie
-use Rattle.element.proofs.carry_out.Reads as reads
-use Rattle.element.proofs.carry_out.Lts as lts
-use Rattle.command.proofs.row_of_command.Reads as row-of-command-reads
-use Rattle.element.proofs.is_open.Reads as is-open-reads
-use Rattle.element.proofs.names_object.Reads as names-object-reads
-use Rattle.element.proofs.on_object.Reads as on-object-reads
-use Rattle.element.proofs.with_opened.Reads as with-opened-reads
-use Rattle.response.proofs.done.Reads as done-reads
 
 row-of-command-requires : tie.Need-row-of-command-requires
 row-of-command-requires c κs = search row-long

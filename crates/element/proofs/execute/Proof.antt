@@ -1,14 +1,8 @@
+-- `element::execute` meets its contract.
 use Rattle.element.proofs.Whole.{too-small, early-passes, early-refused, step-by}
 use borrow.Author.Needs.{needs}
 use Rattle.element.proofs.execute.Statement.{statement}
 use Rattle.element.proofs.execute.Tie as tie
-use Rattle.element.proofs.execute.Reads as reads
-use Rattle.element.proofs.execute.Lts as lts
-use Rattle.command.proofs.early.Reads as early-reads
-use Rattle.command.proofs.flushed.Reads as flushed-reads
-use Rattle.element.proofs.carry_out.Reads as carry-out-reads
-use Rattle.element.proofs.refuse.Reads as refuse-reads
-use Rattle.store.proofs.check_store.Reads as check-store-reads
 
 returns : tie.Need-returns
 returns c = search too-small

@@ -1,11 +1,10 @@
+-- `element::is_open` meets its contract.
 use Rattle.element.specs.Executed.{opens}
 use Rattle.element.proofs.Sessions.{opens-by}
 use mathlib.Core.Path.{refl}
 use borrow.Author.Needs.{needs}
 use Rattle.element.proofs.is_open.Statement.{statement}
 use Rattle.element.proofs.is_open.Tie as tie
-use Rattle.element.proofs.is_open.Reads as reads
-use Rattle.element.proofs.is_open.Lts as lts
 
 enum-told : tie.Need-enum-told
 enum-told c = search needs

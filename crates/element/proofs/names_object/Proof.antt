@@ -1,11 +1,10 @@
+-- `element::names_object` meets its contract.
 use Rattle.rules.proofs.Rows.{gets-or-sets}
 use Rattle.element.proofs.Sessions.{names-by}
 use mathlib.Core.Path.{refl}
 use borrow.Author.Needs.{needs}
 use Rattle.element.proofs.names_object.Statement.{statement}
 use Rattle.element.proofs.names_object.Tie as tie
-use Rattle.element.proofs.names_object.Reads as reads
-use Rattle.element.proofs.names_object.Lts as lts
 
 enum-told : tie.Need-enum-told
 enum-told c = search needs

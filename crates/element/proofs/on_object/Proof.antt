@@ -1,14 +1,9 @@
+-- `element::on_object` meets its contract.
 use Rattle.element.proofs.Whole.{early-there, refused-late, accepted-late}
 use Rattle.command.proofs.InForm.{object-long, row-right}
 use borrow.Author.Needs.{needs}
 use Rattle.element.proofs.on_object.Statement.{statement}
 use Rattle.element.proofs.on_object.Tie as tie
-use Rattle.element.proofs.on_object.Reads as reads
-use Rattle.element.proofs.on_object.Lts as lts
-use Rattle.element.proofs.perform.Reads as perform-reads
-use Rattle.element.proofs.refuse.Reads as refuse-reads
-use Rattle.judge.proofs.find_target.Reads as find-target-reads
-use Rattle.judge.proofs.judge_target.Reads as judge-target-reads
 
 find-target-requires : tie.Need-find-target-requires
 find-target-requires c κs = (search (object-long, row-right), search needs)

@@ -1,13 +1,10 @@
+-- `element::perform` meets its contract.
 use Rattle.element.proofs.Whole.{session-late, record-late, nothing-late, session-done, record-done}
 use Rattle.judge.proofs.Judging.{session-number, record-stands}
 use Rattle.command.proofs.InForm.{row-right}
 use borrow.Author.Needs.{needs}
 use Rattle.element.proofs.perform.Statement.{statement}
 use Rattle.element.proofs.perform.Tie as tie
-use Rattle.element.proofs.perform.Reads as reads
-use Rattle.element.proofs.perform.Lts as lts
-use Rattle.element.proofs.perform_session.Reads as perform-session-reads
-use Rattle.element.proofs.perform_stored.Reads as perform-stored-reads
 
 enum-known-aim : tie.Need-enum-known-aim
 enum-known-aim c = search needs

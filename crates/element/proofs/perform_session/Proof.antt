@@ -1,3 +1,4 @@
+-- `element::perform_session` meets its contract.
 use borrow.Author.Needs.{needs}
 use lib.Dec.{lit≤}
 use Rattle.command.specs.InForm.{least}
@@ -5,11 +6,6 @@ use Rattle.command.proofs.InForm.{long-enough}
 use Rattle.element.proofs.Doing.{answer-room, byte-within, byte-fits, byte-session, byte-answer, write-session, erase-session, write-silent, erase-silent, no-tell, no-set, not-open, not-close, not-unknown}
 use Rattle.element.proofs.perform_session.Statement.{statement}
 use Rattle.element.proofs.perform_session.Tie as tie
-use Rattle.element.proofs.perform_session.Reads as reads
-use Rattle.element.proofs.perform_session.Lts as lts
-use Rattle.element.proofs.show_byte.Reads as show-byte-reads
-use Rattle.element.proofs.with_state.Reads as with-state-reads
-use Rattle.response.proofs.done.Reads as done-reads
 
 enum-told : tie.Need-enum-told
 enum-told c = search needs

@@ -1,3 +1,4 @@
+-- `element::perform_stored` meets its contract.
 use Rattle.element.proofs.Doing.{answer-room, data-within, data-fits, data-store, data-answer, metadata-fits, metadata-store, metadata-answer, write-fits, write-store, write-silent, erase-fits, erase-store, erase-silent, set-allowed, set-store, set-silent, not-open, not-close, not-unknown}
 use Rattle.command.proofs.InForm.{long-enough}
 use Rattle.command.specs.InForm.{least}
@@ -5,17 +6,6 @@ use lib.Dec.{lit≤}
 use borrow.Author.Needs.{needs}
 use Rattle.element.proofs.perform_stored.Statement.{statement}
 use Rattle.element.proofs.perform_stored.Tie as tie
-use Rattle.element.proofs.perform_stored.Reads as reads
-use Rattle.element.proofs.perform_stored.Lts as lts
-use Rattle.change.proofs.erase_and_write.Reads as erase-and-write-reads
-use Rattle.change.proofs.write.Reads as write-reads
-use Rattle.command.proofs.offset.Reads as offset-reads
-use Rattle.command.proofs.sent_data.Reads as sent-data-reads
-use Rattle.command.proofs.sent_metadata.Reads as sent-metadata-reads
-use Rattle.element.proofs.show_data.Reads as show-data-reads
-use Rattle.metadata.proofs.store_content.Reads as store-content-reads
-use Rattle.metadata.proofs.write_answer.Reads as write-answer-reads
-use Rattle.response.proofs.done.Reads as done-reads
 
 enum-told : tie.Need-enum-told
 enum-told c = search needs

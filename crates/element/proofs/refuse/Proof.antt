@@ -1,13 +1,9 @@
+-- `element::refuse` meets its contract.
 use Rattle.element.proofs.Sessions.{refused-by}
 use mathlib.Core.Path.{refl}
 use borrow.Author.Needs.{needs}
 use Rattle.element.proofs.refuse.Statement.{statement}
 use Rattle.element.proofs.refuse.Tie as tie
-use Rattle.element.proofs.refuse.Reads as reads
-use Rattle.element.proofs.refuse.Lts as lts
-use Rattle.command.proofs.code.Reads as code-reads
-use Rattle.command.proofs.raised.Reads as raised-reads
-use Rattle.response.proofs.refuse.Reads as refuse-reads
 
 refuse-requires : tie.Need-refuse-requires
 refuse-requires c κs = search needs

@@ -1,13 +1,8 @@
+-- `element::show_byte` meets its contract.
 use borrow.Author.Needs.{needs}
 use Rattle.element.proofs.Doing.{none-shown, none-answered, one-shown, one-answered}
 use Rattle.element.proofs.show_byte.Statement.{statement}
 use Rattle.element.proofs.show_byte.Tie as tie
-use Rattle.element.proofs.show_byte.Reads as reads
-use Rattle.element.proofs.show_byte.Lts as lts
-use Rattle.command.proofs.asked_length.Reads as asked-length-reads
-use Rattle.element.proofs.shown_session.Reads as shown-session-reads
-use Rattle.response.proofs.answer.Reads as answer-reads
-use Rattle.response.proofs.done.Reads as done-reads
 
 asked-length-requires : tie.Need-asked-length-requires
 asked-length-requires c κs = search needs

@@ -1,13 +1,8 @@
+-- `element::show_data` meets its contract.
 use borrow.Author.Needs.{needs}
 use Rattle.element.proofs.Doing.{shown-fits, shown-small, data-answered}
 use Rattle.element.proofs.show_data.Statement.{statement}
 use Rattle.element.proofs.show_data.Tie as tie
-use Rattle.element.proofs.show_data.Reads as reads
-use Rattle.element.proofs.show_data.Lts as lts
-use Rattle.command.proofs.asked_length.Reads as asked-length-reads
-use Rattle.command.proofs.offset.Reads as offset-reads
-use Rattle.response.proofs.answer.Reads as answer-reads
-use Rattle.store.proofs.data_part.Reads as data-part-reads
 
 offset-requires : tie.Need-offset-requires
 offset-requires c κs = search needs

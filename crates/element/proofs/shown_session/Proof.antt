@@ -1,8 +1,7 @@
+-- `element::shown_session` meets its contract.
 use Rattle.element.proofs.Sessions.{error-shown, other-shown}
 use Rattle.element.proofs.shown_session.Statement.{statement}
 use Rattle.element.proofs.shown_session.Tie as tie
-use Rattle.element.proofs.shown_session.Reads as reads
-use Rattle.element.proofs.shown_session.Lts as lts
 
 returns : tie.Need-returns
 returns c = search error-shown

@@ -1,8 +1,7 @@
+-- `element::with_opened` meets its contract.
 use Rattle.element.proofs.Sessions.{opened-by}
 use Rattle.element.proofs.with_opened.Statement.{statement}
 use Rattle.element.proofs.with_opened.Tie as tie
-use Rattle.element.proofs.with_opened.Reads as reads
-use Rattle.element.proofs.with_opened.Lts as lts
 
 returns : tie.Need-returns
 returns c = search opened-by

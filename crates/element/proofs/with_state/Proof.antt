@@ -1,8 +1,7 @@
+-- `element::with_state` meets its contract.
 use Rattle.element.proofs.Sessions.{lcsg-written, lcsa-written, none-written}
 use Rattle.element.proofs.with_state.Statement.{statement}
 use Rattle.element.proofs.with_state.Tie as tie
-use Rattle.element.proofs.with_state.Reads as reads
-use Rattle.element.proofs.with_state.Lts as lts
 
 returns : tie.Need-returns
 returns c = search lcsg-written

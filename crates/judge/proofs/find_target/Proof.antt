@@ -1,11 +1,8 @@
+-- `judge::find_target` meets its contract.
 use borrow.Author.Needs.{needs}
 use Rattle.judge.proofs.Targets.{lcsg-named, lcsg-in-session, lcsa-named, lcsa-in-session, error-named, error-in-session, found-named, found-stored, found-there, nothing-named}
 use Rattle.judge.proofs.find_target.Statement.{statement}
 use Rattle.judge.proofs.find_target.Tie as tie
-use Rattle.judge.proofs.find_target.Reads as reads
-use Rattle.judge.proofs.find_target.Lts as lts
-use Rattle.command.proofs.object_number.Reads as object-number-reads
-use Rattle.store.proofs.find_record.Reads as find-record-reads
 
 object-number-requires : tie.Need-object-number-requires
 object-number-requires c κs = search needs

@@ -1,12 +1,8 @@
+-- `judge::judge_data` meets its contract.
 use Rattle.judge.proofs.Judging.{data-by}
 use borrow.Author.Needs.{needs}
 use Rattle.judge.proofs.judge_data.Statement.{statement}
 use Rattle.judge.proofs.judge_data.Tie as tie
-use Rattle.judge.proofs.judge_data.Reads as reads
-use Rattle.judge.proofs.judge_data.Lts as lts
-use Rattle.judge.proofs.judge_write.Reads as judge-write-reads
-use Rattle.judge.proofs.slot_holds.Reads as slot-holds-reads
-use Rattle.store.proofs.maximum_at.Reads as maximum-at-reads
 
 slot-holds-requires : tie.Need-slot-holds-requires
 slot-holds-requires c κs = search needs

@@ -1,13 +1,8 @@
+-- `judge::judge_get` meets its contract.
 use borrow.Author.Needs.{needs}
 use Rattle.judge.proofs.Judging.{get-by}
 use Rattle.judge.proofs.judge_get.Statement.{statement}
 use Rattle.judge.proofs.judge_get.Tie as tie
-use Rattle.judge.proofs.judge_get.Reads as reads
-use Rattle.judge.proofs.judge_get.Lts as lts
-use Rattle.command.proofs.asked_length.Reads as asked-length-reads
-use Rattle.command.proofs.fits.Reads as fits-reads
-use Rattle.command.proofs.late.Reads as late-reads
-use Rattle.command.proofs.offset.Reads as offset-reads
 
 asked-length-requires : tie.Need-asked-length-requires
 asked-length-requires c κs = search needs

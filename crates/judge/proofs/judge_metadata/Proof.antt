@@ -1,13 +1,8 @@
+-- `judge::judge_metadata` meets its contract.
 use Rattle.judge.proofs.Judging.{metadata-by}
 use borrow.Author.Needs.{needs}
 use Rattle.judge.proofs.judge_metadata.Statement.{statement}
 use Rattle.judge.proofs.judge_metadata.Tie as tie
-use Rattle.judge.proofs.judge_metadata.Reads as reads
-use Rattle.judge.proofs.judge_metadata.Lts as lts
-use Rattle.command.proofs.late.Reads as late-reads
-use Rattle.command.proofs.sent_metadata.Reads as sent-metadata-reads
-use Rattle.metadata.proofs.content_allowed.Reads as content-allowed-reads
-use Rattle.store.proofs.lcso_at.Reads as lcso-at-reads
 
 sent-metadata-requires : tie.Need-sent-metadata-requires
 sent-metadata-requires c κs = search needs

@@ -1,3 +1,4 @@
+-- `judge::judge_session` meets its contract.
 use Rattle.judge.proofs.Judging.{session-get, session-tell, session-set, session-write, session-erase, open-judged, close-judged, unknown-judged}
 use Rattle.command.proofs.InForm.{long-enough}
 use Rattle.command.specs.InForm.{least}
@@ -5,11 +6,6 @@ use lib.Dec.{lit≤}
 use borrow.Author.Needs.{needs}
 use Rattle.judge.proofs.judge_session.Statement.{statement}
 use Rattle.judge.proofs.judge_session.Tie as tie
-use Rattle.judge.proofs.judge_session.Reads as reads
-use Rattle.judge.proofs.judge_session.Lts as lts
-use Rattle.command.proofs.late.Reads as late-reads
-use Rattle.judge.proofs.judge_get.Reads as judge-get-reads
-use Rattle.judge.proofs.judge_state.Reads as judge-state-reads
 
 enum-told : tie.Need-enum-told
 enum-told c = search needs

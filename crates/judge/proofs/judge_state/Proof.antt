@@ -1,11 +1,8 @@
+-- `judge::judge_state` meets its contract.
 use Rattle.judge.proofs.Judging.{state-by}
 use borrow.Author.Needs.{needs}
 use Rattle.judge.proofs.judge_state.Statement.{statement}
 use Rattle.judge.proofs.judge_state.Tie as tie
-use Rattle.judge.proofs.judge_state.Reads as reads
-use Rattle.judge.proofs.judge_state.Lts as lts
-use Rattle.expression.proofs.may_become.Reads as may-become-reads
-use Rattle.judge.proofs.judge_write.Reads as judge-write-reads
 
 shared-slice-read-may-become : tie.Need-shared-slice-read-may-become
 shared-slice-read-may-become c = search needs

@@ -1,3 +1,4 @@
+-- `judge::judge_stored` meets its contract.
 use Rattle.judge.proofs.Judging.{stored-get, stored-tell, stored-write, stored-erase, stored-set, open-judged, close-judged, unknown-judged}
 use Rattle.command.proofs.InForm.{long-enough}
 use Rattle.command.specs.InForm.{least}
@@ -5,15 +6,6 @@ use lib.Dec.{lit≤}
 use borrow.Author.Needs.{needs}
 use Rattle.judge.proofs.judge_stored.Statement.{statement}
 use Rattle.judge.proofs.judge_stored.Tie as tie
-use Rattle.judge.proofs.judge_stored.Reads as reads
-use Rattle.judge.proofs.judge_stored.Lts as lts
-use Rattle.command.proofs.late.Reads as late-reads
-use Rattle.judge.proofs.judge_data.Reads as judge-data-reads
-use Rattle.judge.proofs.judge_get.Reads as judge-get-reads
-use Rattle.judge.proofs.judge_metadata.Reads as judge-metadata-reads
-use Rattle.judge.proofs.slot_holds.Reads as slot-holds-reads
-use Rattle.metadata.proofs.answer_length.Reads as answer-length-reads
-use Rattle.store.proofs.used_at.Reads as used-at-reads
 
 enum-told : tie.Need-enum-told
 enum-told c = search needs

@@ -1,12 +1,9 @@
+-- `judge::judge_target` meets its contract.
 use Rattle.judge.proofs.Judging.{at-session, at-record, at-nothing, session-number, record-stands}
 use Rattle.command.proofs.InForm.{row-right}
 use borrow.Author.Needs.{needs}
 use Rattle.judge.proofs.judge_target.Statement.{statement}
 use Rattle.judge.proofs.judge_target.Tie as tie
-use Rattle.judge.proofs.judge_target.Reads as reads
-use Rattle.judge.proofs.judge_target.Lts as lts
-use Rattle.judge.proofs.judge_session.Reads as judge-session-reads
-use Rattle.judge.proofs.judge_stored.Reads as judge-stored-reads
 
 enum-known-aim : tie.Need-enum-known-aim
 enum-known-aim c = search needs

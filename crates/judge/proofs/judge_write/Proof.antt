@@ -1,13 +1,8 @@
+-- `judge::judge_write` meets its contract.
 use borrow.Author.Needs.{needs}
 use Rattle.judge.proofs.Judging.{write-by}
 use Rattle.judge.proofs.judge_write.Statement.{statement}
 use Rattle.judge.proofs.judge_write.Tie as tie
-use Rattle.judge.proofs.judge_write.Reads as reads
-use Rattle.judge.proofs.judge_write.Lts as lts
-use Rattle.command.proofs.fits.Reads as fits-reads
-use Rattle.command.proofs.late.Reads as late-reads
-use Rattle.command.proofs.offset.Reads as offset-reads
-use Rattle.command.proofs.sent_data.Reads as sent-data-reads
 
 sent-data-requires : tie.Need-sent-data-requires
 sent-data-requires c κs = search needs

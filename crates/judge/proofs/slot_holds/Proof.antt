@@ -1,12 +1,8 @@
+-- `judge::slot_holds` meets its contract.
 use borrow.Author.Needs.{needs}
 use Rattle.judge.proofs.Judging.{part-well-formed, part-holds}
 use Rattle.judge.proofs.slot_holds.Statement.{statement}
 use Rattle.judge.proofs.slot_holds.Tie as tie
-use Rattle.judge.proofs.slot_holds.Reads as reads
-use Rattle.judge.proofs.slot_holds.Lts as lts
-use Rattle.expression.proofs.holds.Reads as holds-reads
-use Rattle.store.proofs.lcso_at.Reads as lcso-at-reads
-use Rattle.store.proofs.slot_part.Reads as slot-part-reads
 
 slot-part-requires : tie.Need-slot-part-requires
 slot-part-requires c κs = search needs

@@ -3,26 +3,19 @@ use Rattle.listing.proofs.Texts.{byte-fits, byte-past}
 use borrow.Author.Needs.{needs}
 use Rattle.listing.proofs.put_byte.Statement.{statement}
 use Rattle.listing.proofs.put_byte.Tie as tie
-use Rattle.listing.proofs.put_byte.Reads as reads
-use Rattle.listing.proofs.put_byte.Lts as lts
 
--- src/lib.rt:49:9
 slice-write-output : tie.Need-slice-write-output
 slice-write-output c = search needs
 
--- src/lib.rt:50:16
 add-result : tie.Need-add-result
 add-result c = search needs
 
--- src/lib.rt:50:9
 same-length : tie.Need-same-length
 same-length c = search needs
 
--- src/lib.rt:50:9
 returns : tie.Need-returns
 returns c = search byte-fits
 
--- src/lib.rt:44:1
 returns-2 : tie.Need-returns-2
 returns-2 c = search byte-past
 

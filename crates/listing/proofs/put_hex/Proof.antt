@@ -9,9 +9,6 @@ use Rattle.listing.proofs.Digits.{hex-on, hex-end}
 use borrow.Author.Needs.{needs}
 use Rattle.listing.proofs.put_hex.Statement.{statement}
 use Rattle.listing.proofs.put_hex.Tie as tie
-use Rattle.listing.proofs.put_hex.Reads as reads
-use Rattle.listing.proofs.put_hex.Lts as lts
-use Rattle.listing.proofs.put_pair.Reads as put-pair-reads
 
 abbrev Inv-loop : tie.InvT-loop
 Inv-loop output₀ at bytes next₀ i₀ output next i = (i ≤ length bytes) × (next ≤ length output) × (length output ≡ length output₀) × Onward at (upper-hex bytes) output₀ next (upper-hex (drop i bytes)) output
@@ -19,35 +16,27 @@ Inv-loop output₀ at bytes next₀ i₀ output next i = (i ≤ length bytes) ×
 abbrev μ-loop : tie.MeasureT-loop
 μ-loop output₀ at bytes next₀ i₀ output next i = length bytes - i
 
--- src/lib.rt:80:5
 loop-holds : tie.Need-loop-holds Inv-loop μ-loop
 loop-holds c = (omega arith, omega arith, refl, search onward-start)
 
--- src/lib.rt:81:39
 shared-slice-read-put-pair : tie.Need-shared-slice-read-put-pair Inv-loop μ-loop
 shared-slice-read-put-pair c = search needs
 
--- src/lib.rt:81:9
 put-pair-requires : tie.Need-put-pair-requires Inv-loop μ-loop
 put-pair-requires c κs = search needs
 
--- src/lib.rt:82:9
 add-i : tie.Need-add-i Inv-loop μ-loop
 add-i c = search needs
 
--- src/lib.rt:80:5
 loop-less : tie.Need-loop-less Inv-loop μ-loop
 loop-less c = search needs
 
--- src/lib.rt:80:5
 loop-again : tie.Need-loop-again Inv-loop μ-loop
 loop-again c = (omega arith, omega arith, omega arith, search hex-on)
 
--- src/lib.rt:74:1
 same-length : tie.Need-same-length Inv-loop μ-loop
 same-length c = search needs
 
--- src/lib.rt:74:1
 returns : tie.Need-returns Inv-loop μ-loop
 returns c = search hex-end
 

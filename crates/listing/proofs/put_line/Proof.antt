@@ -3,56 +3,39 @@ use Rattle.listing.proofs.Lines.{outcome-small, line-put, line-store, l
 use borrow.Author.Needs.{needs}
 use Rattle.listing.proofs.put_line.Statement.{statement}
 use Rattle.listing.proofs.put_line.Tie as tie
-use Rattle.listing.proofs.put_line.Reads as reads
-use Rattle.listing.proofs.put_line.Lts as lts
-use Rattle.element.proofs.execute.Reads as execute-reads
-use Rattle.listing.proofs.digit.Reads as digit-reads
-use Rattle.listing.proofs.put_byte.Reads as put-byte-reads
-use Rattle.listing.proofs.put_response.Reads as put-response-reads
 
--- src/lib.rt:103:60
 slice-aggregate-execute : tie.Need-slice-aggregate-execute
 slice-aggregate-execute c = search needs
 
--- src/lib.rt:103:9
 execute-requires : tie.Need-execute-requires
 execute-requires c κs = search needs
 
--- src/lib.rt:104:39
 digit-requires : tie.Need-digit-requires
 digit-requires c κs = search outcome-small
 
--- src/lib.rt:104:9
 put-byte-requires : tie.Need-put-byte-requires
 put-byte-requires c κs = search needs
 
--- src/lib.rt:105:9
 put-byte-requires-2 : tie.Need-put-byte-requires-2
 put-byte-requires-2 c κs = search needs
 
--- src/lib.rt:106:43
 slice-aggregate-put-response : tie.Need-slice-aggregate-put-response
 slice-aggregate-put-response c = search needs
 
--- src/lib.rt:106:9
 put-response-requires : tie.Need-put-response-requires
 put-response-requires c κs = search needs
 
--- src/lib.rt:107:9
 put-byte-requires-3 : tie.Need-put-byte-requires-3
 put-byte-requires-3 c κs = search needs
 
--- src/lib.rt:98:1
 same-length : tie.Need-same-length
 same-length c = search needs
 
--- src/lib.rt:98:1
 same-length-2 : tie.Need-same-length-2
 same-length-2 c = search needs
 
--- src/lib.rt:98:1
 returns : tie.Need-returns
-returns c = (search line-put, search line-store, search line-session)
+returns c = (search line-put, (search line-store, search line-session))
 
 pub put-line-spec : {M : Type 1} → statement M
 put-line-spec =

@@ -9,11 +9,6 @@ use Rattle.listing.proofs.Lines.{lines-of, lines-start, lines-on, lengt
 use borrow.Author.Needs.{needs}
 use Rattle.listing.proofs.put_lines.Statement.{statement}
 use Rattle.listing.proofs.put_lines.Tie as tie
-use Rattle.listing.proofs.put_lines.Reads as reads
-use Rattle.listing.proofs.put_lines.Lts as lts
-use Rattle.listing.proofs.put_cut.Reads as put-cut-reads
-use Rattle.listing.proofs.put_line.Reads as put-line-reads
-use Rattle.primitives.proofs.high_at.Reads as high-at-reads
 
 abbrev Inv-loop : tie.InvT-loop
 Inv-loop output₀ input store₀ session₀ next₀ at₀ output store session next at = (at ≤ length input) × (next ≤ length output) × (length output ≡ length output₀) × (length store ≡ length store₀) × Onward 0 (lines (length input) input store₀ session₀) output₀ next (lines-of (drop at input) store session) output
@@ -21,95 +16,72 @@ Inv-loop output₀ input store₀ session₀ next₀ at₀ output store session 
 abbrev μ-loop : tie.MeasureT-loop
 μ-loop output₀ input store₀ session₀ next₀ at₀ output store session next at = length input - at
 
--- src/lib.rt:128:5
 loop-holds : tie.Need-loop-holds Inv-loop μ-loop
 loop-holds c = (omega arith, omega arith, refl, refl, search lines-start)
 
--- src/lib.rt:129:20
 sub-left : tie.Need-sub-left Inv-loop μ-loop
 sub-left c = search needs
 
--- src/lib.rt:131:13
 put-cut-requires : tie.Need-put-cut-requires Inv-loop μ-loop
 put-cut-requires c κs = search needs
 
--- src/lib.rt:131:13
 same-length : tie.Need-same-length Inv-loop μ-loop
 same-length c = search needs
 
--- src/lib.rt:131:13
 same-length-2 : tie.Need-same-length-2 Inv-loop μ-loop
 same-length-2 c = search needs
 
--- src/lib.rt:131:13
 returns : tie.Need-returns Inv-loop μ-loop
 returns c = search length-cut
 
--- src/lib.rt:133:20
 high-at-requires : tie.Need-high-at-requires Inv-loop μ-loop
 high-at-requires c κs = search needs
 
--- src/lib.rt:133:20
 cast-size : tie.Need-cast-size Inv-loop μ-loop
 cast-size c = search needs
 
--- src/lib.rt:134:20
 add-from : tie.Need-add-from Inv-loop μ-loop
 add-from c = search needs
 
--- src/lib.rt:136:13
 put-cut-requires-2 : tie.Need-put-cut-requires-2 Inv-loop μ-loop
 put-cut-requires-2 c κs = search needs
 
--- src/lib.rt:136:13
 same-length-3 : tie.Need-same-length-3 Inv-loop μ-loop
 same-length-3 c = search needs
 
--- src/lib.rt:136:13
 same-length-4 : tie.Need-same-length-4 Inv-loop μ-loop
 same-length-4 c = search needs
 
--- src/lib.rt:136:13
 returns-2 : tie.Need-returns-2 Inv-loop μ-loop
 returns-2 c = search lines-cut
 
--- src/lib.rt:138:18
 add-to : tie.Need-add-to Inv-loop μ-loop
 add-to c = search needs
 
--- src/lib.rt:139:43
 sub-put-line : tie.Need-sub-put-line Inv-loop μ-loop
 sub-put-line c = search needs
 
--- src/lib.rt:139:43
 part-put-line-start : tie.Need-part-put-line-start Inv-loop μ-loop
 part-put-line-start c = search needs
 
--- src/lib.rt:139:43
 part-put-line-end : tie.Need-part-put-line-end Inv-loop μ-loop
 part-put-line-end c = search needs
 
--- src/lib.rt:139:13
 put-line-requires : tie.Need-put-line-requires Inv-loop μ-loop
 put-line-requires c κs = search needs
 
--- src/lib.rt:128:5
 loop-less : tie.Need-loop-less Inv-loop μ-loop
 loop-less c = search needs
 
--- src/lib.rt:128:5
 loop-again : tie.Need-loop-again Inv-loop μ-loop
 loop-again c = (omega arith, omega arith, omega arith, omega arith, search lines-on)
 
--- src/lib.rt:122:1
 same-length-5 : tie.Need-same-length-5 Inv-loop μ-loop
 same-length-5 c = search needs
 
--- src/lib.rt:122:1
 same-length-6 : tie.Need-same-length-6 Inv-loop μ-loop
 same-length-6 c = search needs
 
--- src/lib.rt:122:1
 returns-3 : tie.Need-returns-3 Inv-loop μ-loop
 returns-3 c = search lines-end
 

@@ -5,41 +5,28 @@ use Rattle.listing.proofs.Lines.{response-put}
 use borrow.Author.Needs.{needs}
 use Rattle.listing.proofs.put_response.Statement.{statement}
 use Rattle.listing.proofs.put_response.Tie as tie
-use Rattle.listing.proofs.put_response.Reads as reads
-use Rattle.listing.proofs.put_response.Lts as lts
-use Rattle.listing.proofs.put_hex.Reads as put-hex-reads
-use Rattle.primitives.proofs.high_at.Reads as high-at-reads
-use Rattle.primitives.proofs.smaller.Reads as smaller-reads
 
--- src/lib.rt:92:25
 high-at-requires : tie.Need-high-at-requires
 high-at-requires c κs = search needs
 
--- src/lib.rt:92:25
 cast-size : tie.Need-cast-size
 cast-size c = search needs
 
--- src/lib.rt:92:16
 add-size : tie.Need-add-size
 add-size c = search needs
 
--- src/lib.rt:93:9
 smaller-requires : tie.Need-smaller-requires
 smaller-requires c κs = search needs
 
--- src/lib.rt:94:25
 slice-aggregate-put-hex : tie.Need-slice-aggregate-put-hex
 slice-aggregate-put-hex c = simp length-take (omega arith)
 
--- src/lib.rt:94:5
 put-hex-requires : tie.Need-put-hex-requires
 put-hex-requires c κs = search needs
 
--- src/lib.rt:88:1
 same-length : tie.Need-same-length
 same-length c = search needs
 
--- src/lib.rt:88:1
 returns : tie.Need-returns
 returns c = search response-put
 

@@ -1,3 +1,4 @@
+-- `primitives::clear` meets its contract.
 use Prim.Native.Nat.{_≤_, _-_}
 use mathlib.Core.Path.{_≡_, refl}
 use mathlib.Core.List.{_++_}
@@ -8,8 +9,6 @@ use Rattle.primitives.proofs.Over.{clear-turn, clear-end}
 use borrow.Author.Needs.{needs}
 use Rattle.primitives.proofs.clear.Statement.{statement}
 use Rattle.primitives.proofs.clear.Tie as tie
-use Rattle.primitives.proofs.clear.Reads as reads
-use Rattle.primitives.proofs.clear.Lts as lts
 
 abbrev Inv-loop : tie.InvT-loop
 Inv-loop dst₀ i₀ dst i = (i ≤ length dst) × (length dst ≡ length dst₀) × (dst ≡ zeros i ++ drop i dst₀)

@@ -1,10 +1,8 @@
+-- `primitives::put_zeros` meets its contract.
 use Rattle.primitives.proofs.Over.{put-zeros}
 use borrow.Author.Needs.{needs}
 use Rattle.primitives.proofs.put_zeros.Statement.{statement}
 use Rattle.primitives.proofs.put_zeros.Tie as tie
-use Rattle.primitives.proofs.put_zeros.Reads as reads
-use Rattle.primitives.proofs.put_zeros.Lts as lts
-use Rattle.primitives.proofs.clear.Reads as clear-reads
 
 add-e : tie.Need-add-e
 add-e c = search needs

@@ -4,10 +4,6 @@ use lib.ListN.{length}
 use borrow.Author.Needs.{needs}
 use Rattle.replay.proofs.adler.Statement.{statement}
 use Rattle.replay.proofs.adler.Tie as tie
-use Rattle.replay.proofs.adler.Reads as reads
-use Rattle.replay.proofs.adler.Lts as lts
-use Rattle.replay.proofs.reduced.Reads as reduced-reads
-use Rattle.replay.proofs.with_byte.Reads as with-byte-reads
 
 abbrev Inv-loop : tie.InvT-loop
 Inv-loop bytes low₀ high₀ i₀ low high i = (i ≤ length bytes) × (low < 65521) × (high < 65521)
@@ -15,47 +11,36 @@ Inv-loop bytes low₀ high₀ i₀ low high i = (i ≤ length bytes) × (low < 6
 abbrev μ-loop : tie.MeasureT-loop
 μ-loop bytes low₀ high₀ i₀ low high i = length bytes - i
 
--- src/main.rt:242:5
 loop-holds : tie.Need-loop-holds Inv-loop μ-loop
 loop-holds c = search needs
 
--- src/main.rt:243:30
 shared-slice-read-with-byte : tie.Need-shared-slice-read-with-byte Inv-loop μ-loop
 shared-slice-read-with-byte c = search needs
 
--- src/main.rt:243:9
 with-byte-requires : tie.Need-with-byte-requires Inv-loop μ-loop
 with-byte-requires c κs = search needs
 
--- src/main.rt:244:24
 add-reduced : tie.Need-add-reduced Inv-loop μ-loop
 add-reduced c = search needs
 
--- src/main.rt:244:9
 reduced-requires : tie.Need-reduced-requires Inv-loop μ-loop
 reduced-requires c κs = search needs
 
--- src/main.rt:245:9
 add-i : tie.Need-add-i Inv-loop μ-loop
 add-i c = search needs
 
--- src/main.rt:242:5
 loop-less : tie.Need-loop-less Inv-loop μ-loop
 loop-less c = search needs
 
--- src/main.rt:242:5
 loop-again : tie.Need-loop-again Inv-loop μ-loop
 loop-again c = search needs
 
--- src/main.rt:247:5
 mul-result : tie.Need-mul-result Inv-loop μ-loop
 mul-result c = search needs
 
--- src/main.rt:247:5
 add-result : tie.Need-add-result Inv-loop μ-loop
 add-result c = search needs
 
--- src/main.rt:238:1
 returns : tie.Need-returns Inv-loop μ-loop
 returns c = search needs
 

@@ -1,46 +1,34 @@
+-- `read_part`: the part is as long as what is read.
 use native.Mathlib.Omega.{arith}
 use lib.ListN.{length-take}
 use borrow.Author.Needs.{needs}
 use Rattle.replay.proofs.read_part.Statement.{statement}
 use Rattle.replay.proofs.read_part.Tie as tie
-use Rattle.replay.proofs.read_part.Reads as reads
-use Rattle.replay.proofs.read_part.Lts as lts
-use Rattle.replay.proofs.ended.Reads as ended-reads
-use Rattle.replay.proofs.read_bytes.Reads as read-bytes-reads
 
--- src/main.rt:116:9
 returns : tie.Need-returns
 returns c = search needs
 
--- src/main.rt:119:9
 ended-requires : tie.Need-ended-requires
 ended-requires c κs = search needs
 
--- src/main.rt:119:9
 returns-2 : tie.Need-returns-2
 returns-2 c = search needs
 
--- src/main.rt:121:31
 slice-relend-prefix-read-bytes : tie.Need-slice-relend-prefix-read-bytes
 slice-relend-prefix-read-bytes c = search needs
 
--- src/main.rt:121:31
 slice-aggregate-read-bytes : tie.Need-slice-aggregate-read-bytes
 slice-aggregate-read-bytes c = simp length-take (omega arith)
 
--- src/main.rt:121:5
 read-bytes-requires : tie.Need-read-bytes-requires
 read-bytes-requires c κs = search needs
 
--- src/main.rt:111:1
 same-length : tie.Need-same-length
 same-length c = search needs
 
--- src/main.rt:111:1
 same-length-2 : tie.Need-same-length-2
 same-length-2 c = search needs
 
--- src/main.rt:111:1
 returns-3 : tie.Need-returns-3
 returns-3 c = search needs
 

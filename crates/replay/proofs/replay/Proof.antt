@@ -5,11 +5,6 @@ use Rattle.replay.specs.Held.{Held}
 use borrow.Author.Needs.{needs}
 use Rattle.replay.proofs.replay.Statement.{statement}
 use Rattle.replay.proofs.replay.Tie as tie
-use Rattle.replay.proofs.replay.Reads as reads
-use Rattle.replay.proofs.replay.Lts as lts
-use Rattle.factory.proofs.fresh_session.Reads as fresh-session-reads
-use Rattle.replay.proofs.finish.Reads as finish-reads
-use Rattle.replay.proofs.take_item.Reads as take-item-reads
 
 abbrev Inv-loop : tie.InvT-loop
 Inv-loop buffer₀ output₀ store₀ state₀ turns₀ buffer output store state turns = (length buffer ≡ length buffer₀) × (length output ≡ length output₀) × (length store ≡ length store₀) × Held buffer output store state
@@ -17,63 +12,48 @@ Inv-loop buffer₀ output₀ store₀ state₀ turns₀ buffer output store stat
 abbrev μ-loop : tie.MeasureT-loop
 μ-loop buffer₀ output₀ store₀ state₀ turns₀ buffer output store state turns = turns
 
--- src/main.rt:551:18
 fresh-session-requires : tie.Need-fresh-session-requires Inv-loop μ-loop
 fresh-session-requires c κs = search needs
 
--- src/main.rt:556:5
 loop-holds : tie.Need-loop-holds Inv-loop μ-loop
 loop-holds c = search needs
 
--- src/main.rt:557:9
 take-item-requires : tie.Need-take-item-requires Inv-loop μ-loop
 take-item-requires c κs = search needs
 
--- src/main.rt:559:13
 finish-requires : tie.Need-finish-requires Inv-loop μ-loop
 finish-requires c κs = search needs
 
--- src/main.rt:560:13
 same-length : tie.Need-same-length Inv-loop μ-loop
 same-length c = search needs
 
--- src/main.rt:560:13
 same-length-2 : tie.Need-same-length-2 Inv-loop μ-loop
 same-length-2 c = search needs
 
--- src/main.rt:560:13
 same-length-3 : tie.Need-same-length-3 Inv-loop μ-loop
 same-length-3 c = search needs
 
--- src/main.rt:560:13
 returns : tie.Need-returns Inv-loop μ-loop
 returns c = search needs
 
--- src/main.rt:562:9
 sub-turns : tie.Need-sub-turns Inv-loop μ-loop
 sub-turns c = search needs
 
--- src/main.rt:556:5
 loop-less : tie.Need-loop-less Inv-loop μ-loop
 loop-less c = search needs
 
--- src/main.rt:556:5
 loop-again : tie.Need-loop-again Inv-loop μ-loop
 loop-again c = search needs
 
--- src/main.rt:542:1
 same-length-4 : tie.Need-same-length-4 Inv-loop μ-loop
 same-length-4 c = search needs
 
--- src/main.rt:542:1
 same-length-5 : tie.Need-same-length-5 Inv-loop μ-loop
 same-length-5 c = search needs
 
--- src/main.rt:542:1
 same-length-6 : tie.Need-same-length-6 Inv-loop μ-loop
 same-length-6 c = search needs
 
--- src/main.rt:542:1
 returns-2 : tie.Need-returns-2 Inv-loop μ-loop
 returns-2 c = search needs
 

@@ -1,88 +1,64 @@
+-- `take_factory`: the part is as long as was asked.
 use native.Mathlib.Omega.{arith}
 use lib.ListN.{length-take}
 use borrow.Author.Needs.{needs}
 use Rattle.replay.proofs.take_factory.Statement.{statement}
 use Rattle.replay.proofs.take_factory.Tie as tie
-use Rattle.replay.proofs.take_factory.Reads as reads
-use Rattle.replay.proofs.take_factory.Lts as lts
-use Rattle.factory.proofs.fresh_session.Reads as fresh-session-reads
-use Rattle.replay.proofs.make.Reads as make-reads
-use Rattle.replay.proofs.read_four.Reads as read-four-reads
-use Rattle.replay.proofs.stopped.Reads as stopped-reads
 
--- src/main.rt:506:9
 read-four-requires : tie.Need-read-four-requires
 read-four-requires c κs = search needs
 
--- src/main.rt:510:9
 stopped-requires : tie.Need-stopped-requires
 stopped-requires c κs = search needs
 
--- src/main.rt:510:9
 same-length : tie.Need-same-length
 same-length c = search needs
 
--- src/main.rt:510:9
 returns : tie.Need-returns
 returns c = search needs
 
--- src/main.rt:513:9
 stopped-requires-2 : tie.Need-stopped-requires-2
 stopped-requires-2 c κs = search needs
 
--- src/main.rt:513:9
 same-length-2 : tie.Need-same-length-2
 same-length-2 c = search needs
 
--- src/main.rt:513:9
 returns-2 : tie.Need-returns-2
 returns-2 c = search needs
 
--- src/main.rt:516:21
 array-borrow-prefix-bytes : tie.Need-array-borrow-prefix-bytes
 array-borrow-prefix-bytes c = search needs
 
--- src/main.rt:516:21
 slice-aggregate-make : tie.Need-slice-aggregate-make
 slice-aggregate-make c = simp length-take (omega arith)
 
--- src/main.rt:516:9
 make-requires : tie.Need-make-requires
 make-requires c κs = search needs
 
--- src/main.rt:519:9
 same-length-3 : tie.Need-same-length-3
 same-length-3 c = search needs
 
--- src/main.rt:519:9
 same-length-4 : tie.Need-same-length-4
 same-length-4 c = search needs
 
--- src/main.rt:519:9
 same-length-5 : tie.Need-same-length-5
 same-length-5 c = search needs
 
--- src/main.rt:519:9
 returns-3 : tie.Need-returns-3
 returns-3 c = search needs
 
--- src/main.rt:528:9
 fresh-session-requires : tie.Need-fresh-session-requires
 fresh-session-requires c κs = search needs
 
--- src/main.rt:501:1
 same-length-6 : tie.Need-same-length-6
 same-length-6 c = search needs
 
--- src/main.rt:501:1
 same-length-7 : tie.Need-same-length-7
 same-length-7 c = search needs
 
--- src/main.rt:501:1
 same-length-8 : tie.Need-same-length-8
 same-length-8 c = search needs
 
--- src/main.rt:501:1
 returns-4 : tie.Need-returns-4
 returns-4 c = search needs
 

@@ -1,3 +1,4 @@
+-- `response::answer` meets its contract.
 use Rattle.response.proofs.Begun.{head-then}
 use borrow.Author.Needs.{needs}
 use Rattle.response.proofs.answer.Statement.{statement}

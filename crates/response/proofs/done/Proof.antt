@@ -1,3 +1,4 @@
+-- `response::done` meets its contract.
 use Rattle.response.proofs.Begun.{head-done}
 use borrow.Author.Needs.{needs}
 use Rattle.response.proofs.done.Statement.{statement}

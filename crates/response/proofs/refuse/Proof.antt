@@ -1,3 +1,4 @@
+-- `response::refuse` meets its contract.
 use Rattle.response.proofs.Begun.{refused-by}
 use borrow.Author.Needs.{needs}
 use Rattle.response.proofs.refuse.Statement.{statement}

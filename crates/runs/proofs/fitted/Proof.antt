@@ -1,10 +1,8 @@
+-- `runs::fitted` meets its contract.
 use Rattle.runs.proofs.Cutting.{no-size}
 use borrow.Author.Needs.{needs}
 use Rattle.runs.proofs.fitted.Statement.{statement}
 use Rattle.runs.proofs.fitted.Tie as tie
-use Rattle.runs.proofs.fitted.Reads as reads
-use Rattle.runs.proofs.fitted.Lts as lts
-use Rattle.primitives.proofs.smaller.Reads as smaller-reads
 
 mul-smaller : tie.Need-mul-smaller
 mul-smaller c = search needs

@@ -1,3 +1,4 @@
+-- `runs::run` meets its contract.
 use Prim.Native.Nat.{_-_}
 use native.Mathlib.Omega.{arith}
 use lib.ListN.{length, length-set}
@@ -6,10 +7,6 @@ use Rattle.runs.proofs.Cutting.{loop-entered as entered, loop-again as 
 use borrow.Author.Needs.{needs}
 use Rattle.runs.proofs.run.Statement.{statement}
 use Rattle.runs.proofs.run.Tie as tie
-use Rattle.runs.proofs.run.Reads as reads
-use Rattle.runs.proofs.run.Lts as lts
-use Rattle.runs.proofs.fitted.Reads as fitted-reads
-use Rattle.runs.proofs.turn.Reads as turn-reads
 
 abbrev Inv-loop : tie.InvT-loop
 Inv-loop commands sizes store₀ rooms₀ spaces outcomes₀ kept₀ at₀ to₀ i₀ store rooms outcomes kept at to i =

@@ -1,10 +1,8 @@
+-- `runs::side_by_side` meets its contract.
 use Rattle.runs.proofs.Demand3.{three-runs}
 use borrow.Author.Needs.{needs}
 use Rattle.runs.proofs.side_by_side.Statement.{statement}
 use Rattle.runs.proofs.side_by_side.Tie as tie
-use Rattle.runs.proofs.side_by_side.Reads as reads
-use Rattle.runs.proofs.side_by_side.Lts as lts
-use Rattle.runs.proofs.run.Reads as run-reads
 
 run-requires : tie.Need-run-requires
 run-requires c κs = search needs

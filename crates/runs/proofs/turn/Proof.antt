@@ -1,10 +1,8 @@
+-- `runs::turn` meets its contract.
 use Rattle.runs.proofs.Cutting.{put-back}
 use borrow.Author.Needs.{needs}
 use Rattle.runs.proofs.turn.Statement.{statement}
 use Rattle.runs.proofs.turn.Tie as tie
-use Rattle.runs.proofs.turn.Reads as reads
-use Rattle.runs.proofs.turn.Lts as lts
-use Rattle.element.proofs.execute.Reads as execute-reads
 
 add-end : tie.Need-add-end
 add-end c = search needs
