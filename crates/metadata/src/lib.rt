@@ -84,7 +84,8 @@ fn field_allowed(content: &[u8], tag: u8, start: usize, end: usize, lcso: u8) ->
         if value.len() != 1 {
             return false;
         }
-        return expression::may_become(lcso, value[0]);
+        let state = value[0];
+        return expression::may_become(lcso, state);
     }
     if !is_expression_tag(tag) {
         return false;

@@ -18,8 +18,8 @@ returns : tie.Need-returns
 unfolding field-allowed field
 returns c = search tests depth 8
 
-shared-slice-read-may-become : tie.Need-shared-slice-read-may-become
-shared-slice-read-may-become c = search needs
+shared-slice-read-state : tie.Need-shared-slice-read-state
+shared-slice-read-state c = search needs
 
 may-become-requires : tie.Need-may-become-requires
 may-become-requires c κs = search needs
@@ -50,7 +50,7 @@ field-allowed-spec =
     part-value-start
     part-value-end
     returns
-    shared-slice-read-may-become
+    shared-slice-read-state
     may-become-requires
     returns-2
     is-expression-tag-requires
