@@ -23,6 +23,7 @@ use Rattle.rules.specs.Session.{session-object, with-opened}
 use Rattle.rules.specs.Operation.{getting, getting-metadata, writing, setting-session, operation, named, no-object, requested}
 use Rattle.rules.specs.Refusals.{_refused_or_, _and-then_, no-such-object, early, late, late-of, from-nine, verdict}
 use Rattle.rules.specs.Step.{raised, declined, stored, performed, answered, judged, flushed, unanswered, step}
+use Rattle.rules.proofs.Tests.{some-else}
 use Rattle.rules.proofs.Verdicts.{LatePassed, late-passed, late-accepts, nine-passed}
 use Rattle.rules.proofs.Keeps.{operation-fitting}
 use Rattle.rules.proofs.Rows.{gets-or-sets}
@@ -38,10 +39,6 @@ use Rattle.judge.proofs.Judging.{at-nothing}
 use Rattle.element.specs.declared.Answer.{Answer}
 use Rattle.element.specs.Executed.{executed, stored-at, opens}
 use Rattle.element.proofs.Doing.{record-session, no-set, not-open, not-close, not-unknown}
-
-sound-some : (m : Option (List Object)) → is-some m ≡ true → m ≡ some (or-else m [])
-sound-some none h = absurd (false≢true h)
-sound-some (some os) h = refl
 
 refused-not-accepted : {r : Refusal} {v : Verdict} → Refused r ≡ v → v ≡ Accepted → ⊥
 refused-not-accepted e h = let z : _≡_ {A = ℕ} 0 1 = cc in omega arith
@@ -117,7 +114,7 @@ module _ (c b : List ℕ) (s : Session) (w : Row) (ew : w ≡ row c) (aim : Targ
             go (some new) q =
                 let f = operation-fitting w c (object-at p b) s new (standing p b (there .0 .stands) .allowed) (late-there .within) (late-there .allowed) q in
                 unfold stored-at stored in
-                recorded-there (object-number c) p b os (sound-some (unpack b) u) (there .1) new (f .allowed) (f .number) (f .maximum)
+                recorded-there (object-number c) p b os (some-else (unpack b) [] u) (there .1) new (f .allowed) (f .number) (f .maximum)
 
 -- `on_object`: the verdict of the steps 9 to 13 decides -----------------------------------------------------------------------------
 

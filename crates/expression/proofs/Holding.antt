@@ -6,6 +6,7 @@ use mathlib.Core.List.{List, [], _∷_, _++_}
 use native.Mathlib.Omega.{arith}
 use lib.Dec.{eqb}
 use lib.ListN.{length, getD, drop}
+use Rattle.rules.proofs.Tests.{and-assoc}
 use Rattle.rules.specs.declared.Session.{Session}
 use Rattle.rules.specs.Basic.{is-some}
 use Rattle.rules.specs.Expression.{Group, just, _and_, Groups, only, _or_, Expression, always, never, when}
@@ -43,10 +44,6 @@ module _ (v : Session) (l : ℕ) (w : Bool) (s : List ℕ) (t : Bool) (i : ℕ) 
 
       pub rest-on : (t′ : Bool) → i + 3 < length s → fin ≡ false → t′ ≡ (eqb (getD s (i + 3) 0) 0xFE || held) → w ≡ rest-holds v l t′ (drop (i + 4) s)
       rest-on t′ h q r = rw (rest-open h, ← p, q, r)
-
-and-assoc : (a b c : Bool) → a && b && c ≡ a && (b && c)
-and-assoc true b c = refl
-and-assoc false b c = refl
 
 module _ (v : Session) (l : ℕ) where
   rest-group : (x : Group) (t : Bool) → rest-holds v l t (group-bytes x) ≡ (t && group-holds v l x)

@@ -1,9 +1,9 @@
 -- Which object a command names: the ways out of `find_target`.
 use Prim.Native.Nat.{ℕ}
-use mathlib.Core.Path.{_≡_, refl, sym, ap, _∙_}
-use mathlib.Core.Bool.{true, false, false≢true}
+use mathlib.Core.Path.{_≡_, sym, ap, _∙_}
+use mathlib.Core.Bool.{true, false}
 use mathlib.Core.List.{List, []}
-use mathlib.Core.Option.{Option, none, some}
+use mathlib.Core.Option.{none}
 use borrow.Author.Tests.{ne-eqb}
 use Rattle.rules.specs.declared.Session.{Session}
 use Rattle.rules.specs.declared.Found.{Found}
@@ -14,15 +14,12 @@ use Rattle.rules.specs.Object.{Object, in-session}
 use Rattle.rules.specs.Layout.{unpack, find, found}
 use Rattle.rules.specs.Session.{session-object, session-objects}
 use Rattle.rules.specs.Operation.{named}
+use Rattle.rules.proofs.Tests.{some-else}
 use Rattle.rules.proofs.Rows.{named-in-store}
 use Rattle.store.specs.Places.{Stored}
 use Rattle.store.proofs.Placing.{nowhere, finds-it, stored-there}
 use Rattle.judge.specs.declared.Target.the-variants.{InSession, InStore, Nothing}
 use Rattle.judge.specs.Targets.{kept, target-object}
-
-sound-some : (m : Option (List Object)) → is-some m ≡ true → m ≡ some (or-else m [])
-sound-some none h = absurd (false≢true h)
-sound-some (some os) h = refl
 
 -- the three numbers of the session
 pub lcsg-in-session : (n : ℕ) → n ≡ 0xE0C0 → in-session n ≡ true
@@ -62,10 +59,10 @@ module _ (c b : List ℕ) (s : Session) (n : ℕ) (e : n ≡ object-number c) (s
 
   pub found-named : (p : ℕ) → r ≡ found-at.At p → target-object (InStore p) b ≡ named c (or-else (unpack b) []) s
   unfolding target-object
-  found-named p h = sym (in-store ∙ finds-it n p b (or-else (unpack b) []) (sound-some (unpack b) sound) (sym f ∙ h))
+  found-named p h = sym (in-store ∙ finds-it n p b (or-else (unpack b) []) (some-else (unpack b) [] sound) (sym f ∙ h))
 
   pub found-stored : (p : ℕ) → r ≡ found-at.At p → Stored p b
-  found-stored p h = stored-there n p b (or-else (unpack b) []) (sound-some (unpack b) sound) (sym f ∙ h)
+  found-stored p h = stored-there n p b (or-else (unpack b) []) (some-else (unpack b) [] sound) (sym f ∙ h)
 
   pub found-there : (p : ℕ) → r ≡ found-at.At p → found (object-number c) (or-else (unpack b) []) ≡ found-at.At p
   found-there p h = ap (λ k. found k (or-else (unpack b) [])) (sym e) ∙ sym f ∙ h

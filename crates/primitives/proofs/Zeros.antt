@@ -1,7 +1,7 @@
 -- Bytes that are all zero.
 use Prim.Native.Nat.{ℕ, suc, _+_, _≤_, _<_}
-use mathlib.Core.Path.{_≡_, refl, sym, ap, _∙_}
-use mathlib.Core.Bool.{Bool, true, false, _&&_, and-true}
+use mathlib.Core.Path.{_≡_, sym, ap, _∙_}
+use mathlib.Core.Bool.{Bool, true, _&&_, and-true}
 use mathlib.Core.List.{List}
 use native.Mathlib.Omega.{arith}
 use native.Mathlib.Numerals.{add-one}
@@ -9,14 +9,10 @@ use lib.Dec.{eqb}
 use lib.ListN.{length, getD, drop, length-replicate}
 use lib.Seq.{drop-cons, drop-length}
 use Rattle.rules.specs.Basic.{same, zeros}
-use Rattle.rules.proofs.Tests.{same-refl, same-eq}
+use Rattle.rules.proofs.Tests.{and-assoc, same-refl, same-eq}
 use Rattle.primitives.specs.Bytes.{all-zero}
 
 -- the loop of `all_zero` -----------------------------------------------------------------------------------------------
-
-and-assoc : (a b c : Bool) → a && b && c ≡ a && (b && c)
-and-assoc true b c = refl
-and-assoc false b c = refl
 
 module _ (w : Bool) (s : List ℕ) (z : Bool) (i : ℕ) (inv : w ≡ (z && all-zero (drop i s))) where
   pub zero-on : (z′ : Bool) → i < length s → z′ ≡ (z && eqb (getD s i 0) 0) → w ≡ (z′ && all-zero (drop (i + 1) s))

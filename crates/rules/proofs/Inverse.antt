@@ -1,19 +1,19 @@
 -- `pack` and `unpack` are inverse: a store is well formed exactly where it is the packing of allowed objects, and of these ones alone.
 use Prim.Native.Nat.{ℕ, zero, suc, _+_, _*_, _-_, _/_, _%_, _≤_}
-use mathlib.Core.Bool.{Bool, true, false, _&&_}
+use mathlib.Core.Bool.{true, _&&_}
 use mathlib.Core.List.{List, [], _∷_, _++_, append-assoc}
-use mathlib.Core.Option.{none, some}
+use mathlib.Core.Option.{some}
 use mathlib.Core.Path.{_≡_, refl, sym, ap, _∙_}
 use native.Mathlib.Nat.{mod-add-div, not-suc-le-zero, le-of-suc-le-suc}
 use native.Mathlib.Omega.{arith}
 use borrow.Author.Tests.{leb-true}
 use lib.ListN.{length, length-append, length-replicate, take, drop}
 use lib.Seq.{take-at, drop-at, drop-drop}
-use Rattle.rules.specs.Basic.{if_then_else_, all, same, zeros, low-at}
+use Rattle.rules.specs.Basic.{all, same, zeros, low-at}
 use Rattle.rules.specs.Expression.{Expression, expression-bytes, read-expression, expression-allowed}
 use Rattle.rules.specs.Object.{Object, used, object-allowed, all-allowed}
 use Rattle.rules.specs.Layout.{slot-size, record-size, objects-allowed, slot-of, slot, record-bytes, pack, read-slot, read-record, read-records, unpack}
-use Rattle.rules.proofs.Tests.{and-left, and-right, at-place, same-refl, same-eq}
+use Rattle.rules.proofs.Tests.{chosen, and-left, and-right, at-place, same-refl, same-eq}
 use Rattle.rules.proofs.Expressions.{expression-length, read-bytes}
 
 -- one slot ------------------------------------------------------------------------------------------------------------
@@ -163,10 +163,6 @@ unfolding unpack
 unpack-pack os h =
     let (count, each) = in-count os h in
     rw (records-read 32 os count each, h, same-refl (pack os))
-
-chosen : (t : Bool) (os ps : List Object) → (if t then some os else none) ≡ some ps → (t ≡ true) × (os ≡ ps)
-chosen true os ps h = (refl, cc)
-chosen false os ps h = let z : _≡_ {A = ℕ} 0 1 = cc in absurd (omega arith)
 
 -- a store that is read is the packing of what is read, which is allowed
 pub pack-unpack : (b : List ℕ) (os : List Object) → unpack b ≡ some os → (pack os ≡ b) × (objects-allowed os ≡ true)

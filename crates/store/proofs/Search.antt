@@ -10,8 +10,7 @@ use lib.ListN.{length, drop, length-append, length-drop, drop-of-length-le}
 use Rattle.rules.specs.Basic.{if_then_else_, low-at, is-some, or-else}
 use Rattle.rules.specs.Object.{Object, object-allowed, all-allowed}
 use Rattle.rules.specs.Layout.{head-size, record-size, record-bytes, pack, unpack, found-behind, found}
-use Rattle.rules.proofs.Tests.{and-left, and-right}
-use Rattle.expression.proofs.Tests.{some-else}
+use Rattle.rules.proofs.Tests.{and-left, and-right, some-else}
 use Rattle.rules.proofs.Inverse.{allowed-fits, record-length, in-count, pack-unpack}
 use Rattle.rules.specs.declared.Found.the-variants.{At, Nothing}
 use Rattle.store.specs.Places.{object-at, Stored}
