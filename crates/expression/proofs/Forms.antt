@@ -175,6 +175,11 @@ well-formed-long s l =
     let (b, a) = expression-read s e q in
     absurd (omega (arith, expression-length e a, ap length b)))
 
+pub well-formed-three : (r : Bool) (s : List ℕ) → length s ≡ 3 → r ≡ condition-allowed (condition-at 0 s) → r ≡ is-some (expression s)
+well-formed-three r s l e =
+    fits-last (is-some (expression s)) s most-groups 0
+    (well-formed-joined s (λ h. let z : ⊥ = omega (arith, h) in z) (omega arith)) r (omega arith) e
+
 one-byte : (x : ℕ) (e : Expression) → expression-bytes e ≡ x ∷ [] → (eqb x 0x00 || eqb x 0xFF) ≡ true
 unfolding expression-bytes
 one-byte x always b = let q : 0x00 ≡ x = cc in rw (← q)
@@ -188,10 +193,13 @@ byte-one x false true e f h =
     rw (eqb-true x 0xFF f) (some-is (expression (0xFF ∷ [])) never (unfold expression-allowed expression-bytes in expression-back never refl))
 byte-one x false false e f h = absurd (false≢true h)
 
-pub well-formed-one : (r : Bool) (s : List ℕ) → length s ≡ 1 → r ≡ (eqb (getD s 0 0) 0x00 || eqb (getD s 0 0) 0xFF) → r ≡ is-some (expression s)
-well-formed-one r [] l e = absurd (omega arith)
-well-formed-one r (x ∷ []) l e =
+pub single-by : (r : Bool) (x : ℕ) → r ≡ (eqb x 0x00 || eqb x 0xFF) → r ≡ is-some (expression (x ∷ []))
+single-by r x e =
     e ∙ same-test (eqb x 0x00 || eqb x 0xFF) (is-some (expression (x ∷ [])))
     (λ h. byte-one x (eqb x 0x00) (eqb x 0xFF) refl refl h)
     (λ h. let (e, q) = some-of (expression (x ∷ [])) h in one-byte x e (expression-read (x ∷ []) e q .0))
+
+pub well-formed-one : (r : Bool) (s : List ℕ) → length s ≡ 1 → r ≡ is-some (expression (getD s 0 0 ∷ [])) → r ≡ is-some (expression s)
+well-formed-one r [] l e = absurd (omega arith)
+well-formed-one r (x ∷ []) l e = e
 well-formed-one r (x ∷ y ∷ s) l e = absurd (omega arith)

@@ -48,7 +48,7 @@ fn is_one_of(b: u8, x: u8, y: u8, z: u8) -> bool
 }
 
 // Of the three bytes at `at`.
-fn condition_allowed(part: &[u8], at: usize) -> bool
+pub fn condition_allowed(part: &[u8], at: usize) -> bool
     requires { ⌜ at + 2 < length (now part) ⌝ }
     ensures { λ r. ⌜ r ≡ condition-allowed (condition-at at (now (part .entry))) ⌝ }
 {
@@ -75,13 +75,19 @@ fn groups_after(joint: u8, groups: usize) -> usize
     0
 }
 
+// Of a single byte: always or never.
+pub fn single(b: u8) -> bool
+    ensures { λ r. ⌜ r ≡ is-some (expression (b ∷ [])) ⌝ }
+{
+    primitives::either(b == 0x00, b == 0xFF)
+}
+
 // Whether these bytes are an access expression.
 pub fn well_formed(part: &[u8]) -> bool
     ensures { λ r. ⌜ r ≡ is-some (expression (now (part .entry))) ⌝ }
 {
     if part.len() == 1 {
-        let b = part[0];
-        return primitives::either(b == 0x00, b == 0xFF);
+        return single(part[0]);
     }
     if LONGEST < part.len() {
         return false;

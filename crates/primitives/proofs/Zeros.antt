@@ -1,10 +1,12 @@
 -- Bytes that are all zero.
-use Prim.Native.Nat.{ℕ, suc, _+_, _≤_, _<_}
-use mathlib.Core.Path.{_≡_, sym, ap, _∙_}
+use Prim.Native.Nat.{ℕ, zero, suc, _+_, _≤_, _<_}
+use mathlib.Core.Path.{_≡_, refl, sym, ap, _∙_}
 use mathlib.Core.Bool.{Bool, true, _&&_, and-true}
 use mathlib.Core.List.{List}
 use native.Mathlib.Omega.{arith}
 use native.Mathlib.Numerals.{add-one}
+use borrow.Author.Tests.{ne-eqb}
+use lib.Bits.{bitOr, or-add-and, and-le-r}
 use lib.Dec.{eqb}
 use lib.ListN.{length, getD, drop, length-replicate}
 use lib.Seq.{drop-cons, drop-length}
@@ -12,20 +14,27 @@ use Rattle.rules.specs.Basic.{same, zeros}
 use Rattle.rules.proofs.Tests.{and-assoc, same-refl, same-eq}
 use Rattle.primitives.specs.Bytes.{all-zero}
 
+-- an or is zero where both are
+or-none : (a b : ℕ) → eqb (bitOr a b) 0 ≡ (eqb a 0 && eqb b 0)
+or-none zero b = refl
+or-none (suc a) b =
+    ne-eqb (bitOr (suc a) b) 0 (λ e. let z : ⊥ = omega (arith, e, or-add-and (suc a) b, and-le-r (suc a) b) in z) ∙
+    rw (ne-eqb (suc a) 0 (λ e. let z : ⊥ = omega (arith, e) in z))
+
 -- the loop of `all_zero` -----------------------------------------------------------------------------------------------
 
-module _ (w : Bool) (s : List ℕ) (z : Bool) (i : ℕ) (inv : w ≡ (z && all-zero (drop i s))) where
-  pub zero-on : (z′ : Bool) → i < length s → z′ ≡ (z && eqb (getD s i 0) 0) → w ≡ (z′ && all-zero (drop (i + 1) s))
+module _ (w : Bool) (s : List ℕ) (all i : ℕ) (inv : w ≡ (eqb all 0 && all-zero (drop i s))) where
+  pub zero-on : i < length s → w ≡ (eqb (bitOr all (getD s i 0)) 0 && all-zero (drop (i + 1) s))
   unfolding all-zero same
-  zero-on z′ h e =
-      inv ∙ ap (λ x. z && all-zero x) (drop-cons s i 0 h) ∙
-      rw (e, add-one) (sym (and-assoc z (eqb (getD s i 0) 0) (all-zero (drop (suc i) s))))
+  zero-on h =
+      inv ∙ ap (λ x. eqb all 0 && all-zero x) (drop-cons s i 0 h) ∙
+      rw (or-none all (getD s i 0), add-one) (sym (and-assoc (eqb all 0) (eqb (getD s i 0) 0) (all-zero (drop (suc i) s))))
 
-  pub zero-end : i ≤ length s → length s ≤ i → z ≡ w
+  pub zero-end : i ≤ length s → length s ≤ i → eqb all 0 ≡ w
   unfolding all-zero same
   zero-end h k =
       let e : i ≡ length s = omega arith in
-      sym (inv ∙ ap (λ n. z && all-zero (drop n s)) e ∙ ap (λ x. z && all-zero x) (drop-length s) ∙ and-true z)
+      sym (inv ∙ ap (λ n. eqb all 0 && all-zero (drop n s)) e ∙ ap (λ x. eqb all 0 && all-zero x) (drop-length s) ∙ and-true (eqb all 0))
 
 pub zeros-are : (n : ℕ) → all-zero (zeros n) ≡ true
 unfolding all-zero

@@ -104,15 +104,15 @@ pub fn either(a: bool, b: bool) -> bool
     b
 }
 
-// No early return, so that the loop is vectorised.
+// An or of all bytes with no early return, so that the loop is vectorised.
 pub fn all_zero(s: &[u8]) -> bool
     ensures { λ r. ⌜ r ≡ all-zero (now (s .entry)) ⌝ }
 {
-    let mut zero = true;
+    let mut all: u8 = 0;
     let mut i = 0;
     while i < s.len() {
-        zero = both(zero, s[i] == 0);
+        all = all | s[i];
         i += 1;
     }
-    zero
+    all == 0
 }

@@ -46,6 +46,7 @@ pub record RefusedWith (r : Refusal) (c room store : List ℕ) (s : Session) (a 
   pub store-kept : a .store ≡ store
   pub session-kept : a .session ≡ raised (code r) (flushed c s)
 
+-- a refusal with some number of the list
 pub record SomeRefusal (c room store : List ℕ) (s : Session) (a : After) : Type 0 where
   pub refusal : Refusal
   pub with : RefusedWith refusal c room store s a

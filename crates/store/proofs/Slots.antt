@@ -1,9 +1,9 @@
 -- The check of one slot: its tests say whether the bytes are the slot of an allowed expression.
-use Prim.Native.Nat.{ℕ, _+_, _-_, _≤_}
-use mathlib.Core.Path.{_≡_, sym, ap, _∙_}
-use mathlib.Core.Bool.{Bool, true, _&&_}
+use Prim.Native.Nat.{ℕ, _+_, _-_, _≤_, _<_}
+use mathlib.Core.Path.{_≡_, refl, sym, ap, _∙_}
+use mathlib.Core.Bool.{Bool, true, false, _&&_}
 use mathlib.Core.List.{List, [], _∷_, _++_}
-use borrow.Author.Tests.{le-leb, leb-true}
+use borrow.Author.Tests.{le-leb, lt-leb, leb-true}
 use native.Mathlib.Omega.{arith}
 use native.Mathlib.Numerals.{add-one}
 use borrow.Rule.Slice.PartAt.{part-to-end}
@@ -11,14 +11,16 @@ use lib.Dec.{leb}
 use lib.ListN.{length, getD, take, drop, length-drop, take-append-drop}
 use lib.Seq.{take-at, drop-at, length-take-le}
 use Rattle.rules.specs.Basic.{same, zeros, is-some}
-use Rattle.rules.specs.Expression.{Expression, expression, read-expression, expression-bytes, expression-allowed}
+use Rattle.rules.specs.Expression.{Expression, expression, read-expression, expression-bytes, expression-allowed, condition-allowed}
 use Rattle.rules.specs.Layout.{slot-size, slot-of, slot, read-slot}
 use Rattle.rules.proofs.Tests.{and-left, and-right, and-both, same-refl, same-eq}
 use Rattle.rules.proofs.Expressions.{expression-length, expression-back, expression-read, read-bytes}
 use Rattle.primitives.specs.Bytes.{all-zero}
 use Rattle.primitives.proofs.Zeros.{zeros-are, are-zeros}
+use Rattle.expression.specs.Conditions.{condition-at}
 use Rattle.expression.proofs.Tests.{same-test, some-of, some-is}
-use Rattle.store.specs.Records.{is-slot}
+use Rattle.expression.proofs.Forms.{well-formed-three}
+use Rattle.store.specs.Records.{filled, is-slot, part}
 
 module _ (n : ℕ) (t : List ℕ) (l : length t ≡ slot-size - 1) where
   slot-tests : Bool
@@ -59,14 +61,36 @@ module _ (n : ℕ) (t : List ℕ) (l : length t ≡ slot-size - 1) where
       (λ h. slot-passes e (and-left (expression-allowed e) (same (slot e) (n ∷ t)) h) (same-eq (slot e) (n ∷ t) (and-right (expression-allowed e) (same (slot e) (n ∷ t)) h)))
       passes-slot
 
+-- `filled_by_one`, `filled_by_condition`
+pub one-by : (b : List ℕ) (r : Bool) → length b ≡ slot-size →
+    r ≡ (is-some (expression (getD b 1 0 ∷ [])) && all-zero (part b 2 slot-size)) → r ≡ filled 1 b
+unfolding filled
+one-by [] r l e = absurd (omega arith)
+one-by (n ∷ []) r l e = absurd (omega arith)
+one-by (n ∷ x ∷ t) r l e = e
+
+pub condition-by : (b : List ℕ) (r : Bool) → length b ≡ slot-size →
+    r ≡ (condition-allowed (condition-at 1 b) && all-zero (part b 4 slot-size)) → r ≡ filled 3 b
+unfolding filled condition-at
+condition-by [] r l e = absurd (omega arith)
+condition-by (n ∷ []) r l e = absurd (omega arith)
+condition-by (n ∷ x ∷ []) r l e = absurd (omega arith)
+condition-by (n ∷ x ∷ y ∷ []) r l e = absurd (omega arith)
+condition-by (n ∷ x ∷ y ∷ z ∷ t) r l e = e ∙ rw (well-formed-three _ (x ∷ y ∷ z ∷ []) refl refl)
+
 -- `slot_ok`
-pub slot-by : (b : List ℕ) (r : Bool) → length b ≡ slot-size →
-    r ≡ (leb (getD b 0 0) (slot-size - 1) &&
-    (is-some (expression (take (getD b 0 0 + 1 - 1) (drop 1 b))) && all-zero (take (length b - (getD b 0 0 + 1)) (drop (getD b 0 0 + 1) b)))) →
-    r ≡ is-slot b
-unfolding slot-tests
-slot-by [] r l e = absurd (omega arith)
-slot-by (n ∷ t) r l e =
-    let h : length t ≡ slot-size - 1 = omega arith in
+pub slot-by : (b : List ℕ) (n : ℕ) (r : Bool) → length b ≡ slot-size → getD b 0 0 ≡ n → leb n (slot-size - 1) ≡ true → r ≡ filled n b → r ≡ is-slot b
+unfolding slot-tests filled
+slot-by [] n r l q h e = absurd (omega arith)
+slot-by (m ∷ t) n r l q h e =
+    let k : length t ≡ slot-size - 1 = omega arith in
     let one : n + 1 - 1 ≡ n = omega arith in
-    e ∙ rw (part-to-end (n ∷ t) (n + 1), one, add-one n) (sym (slot-same n t h))
+    let rest : part (m ∷ t) (n + 1) slot-size ≡ drop (n + 1) (m ∷ t) = ap (part (m ∷ t) (n + 1)) (sym l) ∙ part-to-end (m ∷ t) (n + 1) in
+    e ∙ rw (rest, one, add-one n, q) (sym (slot-same n t k ∙ rw h))
+
+pub slot-long : (b : List ℕ) → length b ≡ slot-size → slot-size - 1 < getD b 0 0 → false ≡ is-slot b
+unfolding slot-tests
+slot-long [] l h = absurd (omega arith)
+slot-long (n ∷ t) l h =
+    let k : length t ≡ slot-size - 1 = omega arith in
+    sym (slot-same n t k ∙ rw (lt-leb n (slot-size - 1) h))

@@ -4,8 +4,8 @@ use mathlib.Core.Bool.{Bool, not, _&&_}
 use mathlib.Core.List.{List, [], _∷_}
 use lib.Dec.{eqb, leb}
 use lib.ListN.{length, getD, take, drop}
-use Rattle.rules.specs.Basic.{all, same, low-at}
-use Rattle.rules.specs.Expression.{expression-allowed, is-state}
+use Rattle.rules.specs.Basic.{all, same, is-some, low-at}
+use Rattle.rules.specs.Expression.{expression, expression-allowed, is-state}
 use Rattle.rules.specs.Object.{in-session, object-allowed}
 use Rattle.rules.specs.Layout.{slot-size, slots-at, head-size, data-kind, slot, record-bytes, read-slot, read-record}
 use Rattle.primitives.specs.Bytes.{all-zero}
@@ -17,6 +17,10 @@ is-slot b = expression-allowed (read-slot b) && same (slot (read-slot b)) b
 -- the bytes from a up to e
 abbrev pub part : List ℕ → ℕ → ℕ → List ℕ
 part b a e = take (e - a) (drop a b)
+
+-- these bytes are an expression of n bytes in a slot, with zeros behind
+unfoldable pub filled : ℕ → List ℕ → Bool
+filled n b = is-some (expression (part b 1 (n + 1))) && all-zero (part b (n + 1) slot-size)
 
 -- what the bytes of a record before its slots must say, where it has as many bytes as b
 unfoldable pub head-allowed : List ℕ → Bool

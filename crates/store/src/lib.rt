@@ -7,14 +7,14 @@ use rules::Slot;
 ghost use mathlib.Core.Path.{_≡_};
 ghost use mathlib.Core.Bool.{true};
 ghost use mathlib.Core.List.{[]};
-ghost use Prim.Native.Nat.{_+_, _≤_};
+ghost use Prim.Native.Nat.{_+_, _≤_, _<_};
 ghost use lib.ListN.{length, getD, take, drop};
 ghost use Rattle.rules.specs.Basic.{is-some, or-else, low-at};
 ghost use Rattle.rules.specs.Expression.{expression-bytes};
 ghost use Rattle.rules.specs.Object.{used, in-session, expression-in};
 ghost use Rattle.rules.specs.Layout.{slot-size, head-size, slot-at, unpack, found};
 ghost use Rattle.store.specs.Places.{object-at, Stored};
-ghost use Rattle.store.specs.Records.{is-slot, head-allowed, body-allowed, is-record};
+ghost use Rattle.store.specs.Records.{filled, is-slot, head-allowed, body-allowed, is-record};
 
 // Limits of a store: its bytes, its records, an object's maximum.
 const BYTES: usize = 16384;
@@ -51,19 +51,55 @@ const SHORTEST: usize = DATA + 1;
 // The kind of a record.
 const DATA_KIND: u16 = 1;
 
+// Of a slot whose expression has n bytes.
+fn filled(part: &[u8], n: usize) -> bool
+    requires { ⌜ (length (now part) ≡ slot-size) × (n < slot-size) ⌝ }
+    ensures { λ r. ⌜ r ≡ filled n (now (part .entry)) ⌝ }
+{
+    let e = n + 1;
+    if !expression::well_formed(&part[1..e]) {
+        return false;
+    }
+    primitives::all_zero(&part[e..SLOT])
+}
+
+// Of a slot whose expression is one byte: here and for one condition the zeros are of a fixed length, and need no loop.
+fn filled_by_one(part: &[u8]) -> bool
+    requires { ⌜ length (now part) ≡ slot-size ⌝ }
+    ensures { λ r. ⌜ r ≡ filled 1 (now (part .entry)) ⌝ }
+{
+    if !expression::single(part[1]) {
+        return false;
+    }
+    primitives::all_zero(&part[2..SLOT])
+}
+
+// Of a slot whose expression is one condition.
+fn filled_by_condition(part: &[u8]) -> bool
+    requires { ⌜ length (now part) ≡ slot-size ⌝ }
+    ensures { λ r. ⌜ r ≡ filled 3 (now (part .entry)) ⌝ }
+{
+    if !expression::condition_allowed(part, 1) {
+        return false;
+    }
+    primitives::all_zero(&part[4..SLOT])
+}
+
 fn slot_ok(part: &[u8]) -> bool
     requires { ⌜ length (now part) ≡ slot-size ⌝ }
     ensures { λ r. ⌜ r ≡ is-slot (now (part .entry)) ⌝ }
 {
     let n = part[0] as usize;
+    if n == 1 {
+        return filled_by_one(part);
+    }
+    if n == 3 {
+        return filled_by_condition(part);
+    }
     if SLOT - 1 < n {
         return false;
     }
-    let e = n + 1;
-    if !expression::well_formed(&part[1..e]) {
-        return false;
-    }
-    primitives::all_zero(&part[e..])
+    filled(part, n)
 }
 
 fn in_session(number: u16) -> bool

@@ -17,11 +17,11 @@ Inv-loop s at₀ groups₀ at groups = (at ≤ length s) × (1 ≤ groups) × (i
 abbrev μ-loop : tie.MeasureT-loop
 μ-loop s at₀ groups₀ at groups = length s - at
 
-shared-slice-read-b : tie.Need-shared-slice-read-b Inv-loop μ-loop
-shared-slice-read-b c = search needs
+shared-slice-read-single : tie.Need-shared-slice-read-single Inv-loop μ-loop
+shared-slice-read-single c = search needs
 
-either-requires : tie.Need-either-requires Inv-loop μ-loop
-either-requires c κs = search needs
+single-requires : tie.Need-single-requires Inv-loop μ-loop
+single-requires c κs = search needs
 
 returns : tie.Need-returns Inv-loop μ-loop
 returns c = search well-formed-one
@@ -80,8 +80,8 @@ well-formed-spec =
     (tie.spec
     Inv-loop
     μ-loop
-    shared-slice-read-b
-    either-requires
+    shared-slice-read-single
+    single-requires
     returns
     returns-2
     loop-holds
