@@ -15,7 +15,7 @@ use Rattle.rules.specs.Metadata as rules
 use Rattle.rules.specs.Metadata.{fields-bytes}
 use Rattle.metadata.specs.declared.Next.{Next}
 use Rattle.metadata.specs.declared.Next.the-variants.{Field, End, Broken}
-use Rattle.metadata.specs.Content.{field-at}
+use Rattle.metadata.specs.Content.{field-at, end-of, place-after}
 
 -- a field stands at a position: its tag t, its value from a to e
 pub record Here (at t a e : ℕ) (m : List ℕ) : Type 0 where
@@ -101,6 +101,10 @@ module _ (at : ℕ) (m : List ℕ) where
     unfolding field-at told
     here t a e h = told-field past cut over refl refl refl t a e (sym told-so ∙ h)
 
+    behind : (n : Next) → r ≡ n → end-of n at ≡ place-after at m
+    unfolding place-after
+    behind n h = ap (λ x. end-of x at) (sym h ∙ told-so)
+
     module _ (t a e : ℕ) (h : r ≡ Field t a e) where
       pub value-counted : a ≤ e
       value-counted = here t a e h .counted
@@ -108,8 +112,21 @@ module _ (at : ℕ) (m : List ℕ) where
       pub value-inside : e ≤ length m
       value-inside = here t a e h .inside
 
-      pub less-left : length m - e < length m - at
-      less-left = omega (arith, here t a e h .head, here t a e h .counted, here t a e h .inside)
+      -- the reader goes on behind the field
+      pub behind-field : e ≡ place-after at m
+      unfolding end-of
+      behind-field = behind (Field t a e) h
+
+      pub less-left : (p : ℕ) → p ≡ place-after at m → length m - p < length m - at
+      less-left p q = omega (arith, here t a e h .head, here t a e h .counted, here t a e h .inside, behind-field)
+
+    pub behind-end : r ≡ End → at ≡ place-after at m
+    unfolding end-of
+    behind-end = behind End
+
+    pub behind-broken : r ≡ Broken → at ≡ place-after at m
+    unfolding end-of
+    behind-broken = behind Broken
 
     pub ended : r ≡ End → length m ≤ at
     unfolding field-at told

@@ -18,8 +18,8 @@ use Rattle.expression.proofs.Tests.{same-test}
 use Rattle.metadata.specs.declared.Next.{Next}
 use Rattle.metadata.specs.declared.Next.the-variants.{End, Broken}
 use Rattle.metadata.specs.declared.Next.the-variants as next
-use Rattle.metadata.specs.Content.{field-at}
-use Rattle.metadata.proofs.Fields.{two, here, ended, broken}
+use Rattle.metadata.specs.Content.{field-at, place-after}
+use Rattle.metadata.proofs.Fields.{two, here, ended, broken, behind-field}
 
 abbrev pub tags : List Field → List ℕ
 tags fs = map (λ f. f .tag) fs
@@ -94,8 +94,8 @@ module _ (w : Bool) (lcso last at : ℕ) (m : List ℕ) (r : Next) (inv : w ≡ 
       pub filled-refused : not ok ≡ true → false ≡ w
       filled-refused n = sym (judged ∙ rw (lt-ltb last t l, ← says, not-true ok n))
 
-      pub filled-next : not ok ≡ false → w ≡ filled (length m) lcso t (drop e m)
-      filled-next n = judged ∙ rw (lt-ltb last t l, ← says, not-false ok n)
+      pub filled-next : not ok ≡ false → (p : ℕ) → p ≡ place-after at m → w ≡ filled (length m) lcso t (drop p m)
+      filled-next n p q = judged ∙ rw (lt-ltb last t l, ← says, not-false ok n, q, ← behind-field at m r told t a e h)
 
 -- what is filled is the bytes of fields
 record Filling (lcso t : ℕ) (b : List ℕ) : Type 0 where

@@ -27,9 +27,9 @@ use Rattle.change.proofs.Records.{read-allowed}
 use Rattle.change.proofs.Left.{Left, left-start, left-length, left-stored, left-lcso, left-expression}
 use Rattle.metadata.specs.declared.Next.{Next}
 use Rattle.metadata.specs.declared.Next.the-variants as next
-use Rattle.metadata.specs.Content.{field-at, tag-slot}
+use Rattle.metadata.specs.Content.{field-at, place-after, tag-slot}
 use Rattle.metadata.proofs.Next as enum
-use Rattle.metadata.proofs.Fields.{Here, here, stands}
+use Rattle.metadata.proofs.Fields.{Here, here, stands, behind-field}
 use Rattle.metadata.proofs.Judging.{tags, Tag, state, change, read, execute, its-tag, whole}
 
 -- one field --------------------------------------------------------------------------------------------------------------------
@@ -238,9 +238,10 @@ module _ (p k : ℕ) (m b b1 : List ℕ) (g : Going p k m b b1) where
           let f = field t (part m a e) in
           allowed-low (g .lcso) f (and-left (field-allowed (g .lcso) f) (fields-allowed (g .lcso) (this .others)) (rw (this .is) at (g .allowed)))
 
-      pub going-next : (b2 : List ℕ) → b2 ≡ with-record p (with-fields (field t (part m a e) ∷ []) (object-at p b1)) b1 → Going p e m b b2
+      pub going-next : (b2 : List ℕ) → b2 ≡ with-record p (with-fields (field t (part m a e) ∷ []) (object-at p b1)) b1 →
+          (j : ℕ) → j ≡ place-after k m → Going p j m b b2
       unfolding fields-allowed
-      going-next b2 q =
+      going-next b2 q j behind =
           let f = field t (part m a e) in
           let fs = this .others in
           let up : rising (tags (f ∷ fs)) ≡ true = rw (this .is) at (g .rise) in
@@ -249,7 +250,7 @@ module _ (p k : ℕ) (m b b1 : List ℕ) (g : Going p k m b b1) where
             object = with-fields (f ∷ []) (g .object);
             left = left-field t (part m a e) going-allowed p b (g .object) b1 b2 (g .left) q;
             rest = fs;
-            bytes = this .after;
+            bytes = ap (λ x. drop x m) (behind ∙ sym (behind-field k m r told t a e h)) ∙ this .after;
             rise = rising-rest f fs up;
             allowed = and-right (field-allowed (g .lcso) f) (fields-allowed (g .lcso) fs) (rw (this .is) at (g .allowed));
             comes-to = fields-in-turn f fs up (g .object) ∙ ap (λ x. with-fields x (g .object)) (sym (this .is)) ∙ g .comes-to;

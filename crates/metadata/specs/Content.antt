@@ -1,11 +1,13 @@
--- What stands at a position of metadata content.
+-- What stands at a position of metadata content, and where a reader goes from there.
 use Prim.Native.Nat.{ℕ, _+_, _-_}
 use mathlib.Core.List.{List}
 use lib.Dec.{eqb, ltb, leb}
 use lib.ListN.{length, getD}
+use denote.Ref.{now}
 use Rattle.rules.specs.Basic.{if_then_else_}
 use Rattle.rules.specs.declared.Slot.{Slot}
 use Rattle.rules.specs.declared.Slot.the-variants.{Change, Read, Execute}
+use Rattle.metadata.specs.declared.MetadataReader.{MetadataReader}
 use Rattle.metadata.specs.declared.Next.{Next}
 use Rattle.metadata.specs.declared.Next.the-variants.{Field, End, Broken}
 
@@ -16,6 +18,20 @@ field-at at m =
     if ltb (length m - at) 2 then Broken else
     if ltb (length m - at - 2) (getD m (at + 1) 0) then Broken else
     Field (getD m at 0) (at + 2) (at + 2 + getD m (at + 1) 0)
+
+-- where a field ends, or the place given where there is none
+unfoldable pub end-of : Next → ℕ → ℕ
+end-of (Field t a e) at = e
+end-of End at = at
+end-of Broken at = at
+
+-- the place behind what stands at a place
+unfoldable pub place-after : ℕ → List ℕ → ℕ
+place-after at m = end-of (field-at at m) at
+
+-- a reader that has gone past what it stood at
+abbrev pub advanced : MetadataReader → MetadataReader
+advanced r = record { content = r .content; at = place-after (r .at) (now (r .content)) }
 
 -- the slot of an expression's tag
 unfoldable pub tag-slot : ℕ → Slot

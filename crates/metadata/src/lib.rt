@@ -1,4 +1,4 @@
-// Metadata: content that is sent in, judged and stored, and the answer.
+// Metadata: content that is sent in, read, judged and stored, and the answer.
 use rules::Length;
 use rules::Slot;
 ghost use mathlib.Core.Path.{_≡_};
@@ -16,7 +16,7 @@ ghost use Rattle.rules.specs.Response.{done-response, put-in-front};
 ghost use Rattle.primitives.specs.Bytes.{over};
 ghost use Rattle.store.specs.Places.{object-at, Stored, with-record};
 ghost use Rattle.store.specs.Records.{part};
-ghost use Rattle.metadata.specs.Content.{field-at, tag-slot};
+ghost use Rattle.metadata.specs.Content.{field-at, place-after, advanced, tag-slot};
 ghost use Rattle.metadata.specs.Answer.{state-and-sizes, slot-tag, slot-field, Sized};
 
 // What stands at a position of the content: a field whose value is content[start..end], the end, or what is no field.
@@ -24,6 +24,18 @@ pub enum Next {
     Field { tag: u8, start: usize, end: usize },
     End,
     Broken,
+}
+
+// Steps through fields: the lent content, and the place in it.
+pub struct MetadataReader<'a> {
+    pub content: &'a [u8],
+    pub at: usize,
+}
+
+// What a reader stood at, and its place after that.
+pub struct Step {
+    pub next: Next,
+    pub at: usize,
 }
 
 // The tags of the LcsO, the maximum, the bytes in use, and the expressions for change, read and execute.
@@ -40,7 +52,7 @@ const READ_TAG: u8 = 0xD1;
 const EXECUTE_TAG: u8 = 0xD3;
 
 // What stands there, of any bytes at any position.
-pub fn field_at(content: &[u8], at: usize) -> Next
+fn field_at(content: &[u8], at: usize) -> Next
     ensures { λ r. ⌜ r ≡ field-at at (now (content .entry)) ⌝ }
 {
     if content.len() <= at {
@@ -59,6 +71,51 @@ pub fn field_at(content: &[u8], at: usize) -> Next
         tag: content[at],
         start,
         end: start + n,
+    }
+}
+
+// The place behind what stands at a place: behind a field's value, or the same place where there is no field.
+fn place_after(content: &[u8], at: usize) -> usize
+    ensures { λ r. ⌜ r ≡ place-after at (now (content .entry)) ⌝ }
+{
+    match field_at(content, at) {
+        Next::Field {
+            tag: _,
+            start: _,
+            end,
+        } => end,
+        Next::End => at,
+        Next::Broken => at,
+    }
+}
+
+// A reader of the content that stands at a place of it.
+pub fn reader_at<'a>(content: &'a [u8], at: usize) -> MetadataReader<'a>
+    ensures { λ r. ⌜ (r .content ≡ content .entry) × (r .at ≡ at) ⌝ }
+{
+    MetadataReader { content, at }
+}
+
+// What the reader stands at; the reader goes past a field.
+pub fn advance<'s, 'a>(reader: &'s mut MetadataReader<'a>) -> Next
+    ensures { λ r. ⌜ (r ≡ field-at (now (reader .entry) .at) (now (now (reader .entry) .content))) × (now (reader .exit) ≡ advanced (now (reader .entry))) ⌝ }
+{
+    let content = reader.content;
+    let at = reader.at;
+    let next = field_at(content, at);
+    reader.at = place_after(content, at);
+    next
+}
+
+// One step of a reader from a place, for callers that hold a slice and a number.
+pub fn step_from(content: &[u8], at: usize) -> Step
+    ensures { λ r. ⌜ (r .next ≡ field-at at (now (content .entry))) × (r .at ≡ place-after at (now (content .entry))) ⌝ }
+{
+    let mut reader = reader_at(content, at);
+    let next = advance(&mut reader);
+    Step {
+        next,
+        at: reader.at,
     }
 }
 
@@ -109,7 +166,9 @@ pub fn content_allowed(content: &[u8], lcso: u8) -> bool
     let mut at: usize = 2;
     let mut last: u8 = 0;
     loop {
-        match field_at(content, at) {
+        let step = step_from(content, at);
+        let next = step.next;
+        match next {
             Next::Field { tag, start, end } => {
                 if tag <= last {
                     return false;
@@ -118,7 +177,7 @@ pub fn content_allowed(content: &[u8], lcso: u8) -> bool
                     return false;
                 }
                 last = tag;
-                at = end;
+                at = step.at;
             }
             Next::End => return true,
             Next::Broken => return false,
@@ -160,11 +219,13 @@ pub fn store_content(store: &mut [u8], at: usize, content: &[u8])
 {
     let mut place: usize = 2;
     loop {
-        let Next::Field { tag, start, end } = field_at(content, place) else {
+        let step = step_from(content, place);
+        let next = step.next;
+        let Next::Field { tag, start, end } = next else {
             return;
         };
         store_field(store, at, content, tag, start, end);
-        place = end;
+        place = step.at;
     }
 }
 

@@ -1,6 +1,6 @@
 -- What is left to judge is whether the rest is filled with fields whose tags are above the last.
 use borrow.Author.Needs.{needs}
-use Prim.Native.Nat.{_≤_, _-_}
+use Prim.Native.Nat.{_-_}
 use mathlib.Core.Path.{_≡_}
 use lib.ListN.{length, drop}
 use native.Mathlib.Omega.{arith}
@@ -12,7 +12,7 @@ use Rattle.metadata.proofs.content_allowed.Statement.{statement}
 use Rattle.metadata.proofs.content_allowed.Tie as tie
 
 abbrev Inv-loop : tie.InvT-loop
-Inv-loop content lcso at₀ last₀ at last = (at ≤ length content) × (metadata-allowed lcso content ≡ filled (length content) lcso last (drop at content))
+Inv-loop content lcso at₀ last₀ at last = metadata-allowed lcso content ≡ filled (length content) lcso last (drop at content)
 
 abbrev μ-loop : tie.MeasureT-loop
 μ-loop content lcso at₀ last₀ at last = length content - at
@@ -39,13 +39,13 @@ returns-3 : tie.Need-returns-3 Inv-loop μ-loop
 returns-3 c = search not-filling
 
 loop-holds : tie.Need-loop-holds Inv-loop μ-loop
-loop-holds c = (omega arith, search by-fields)
+loop-holds c = search by-fields
 
-field-at-requires : tie.Need-field-at-requires Inv-loop μ-loop
-field-at-requires c κs = search needs
+step-from-requires : tie.Need-step-from-requires Inv-loop μ-loop
+step-from-requires c κs = search needs
 
-enum-known-tag : tie.Need-enum-known-tag Inv-loop μ-loop
-enum-known-tag c = search needs
+enum-known-next : tie.Need-enum-known-next Inv-loop μ-loop
+enum-known-next c = search needs
 
 returns-4 : tie.Need-returns-4 Inv-loop μ-loop
 returns-4 c = search filled-falls
@@ -60,7 +60,7 @@ loop-less : tie.Need-loop-less Inv-loop μ-loop
 loop-less c = search less-left
 
 loop-again : tie.Need-loop-again Inv-loop μ-loop
-loop-again c = (search value-inside, search filled-next)
+loop-again c = search filled-next
 
 enum-told : tie.Need-enum-told Inv-loop μ-loop
 enum-told c = search needs
@@ -88,8 +88,8 @@ content-allowed-spec =
     sub-if3
     returns-3
     loop-holds
-    field-at-requires
-    enum-known-tag
+    step-from-requires
+    enum-known-next
     returns-4
     field-allowed-requires
     returns-5

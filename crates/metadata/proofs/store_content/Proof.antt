@@ -16,11 +16,11 @@ abbrev μ-loop : tie.MeasureT-loop
 loop-holds : tie.Need-loop-holds Inv-loop μ-loop
 loop-holds c = search going-start
 
-field-at-requires : tie.Need-field-at-requires Inv-loop μ-loop
-field-at-requires c κs = search needs
+step-from-requires : tie.Need-step-from-requires Inv-loop μ-loop
+step-from-requires c κs = search needs
 
-enum-known-tag : tie.Need-enum-known-tag Inv-loop μ-loop
-enum-known-tag c = search needs
+enum-known-next : tie.Need-enum-known-next Inv-loop μ-loop
+enum-known-next c = search needs
 
 same-length : tie.Need-same-length Inv-loop μ-loop
 same-length c = search going-length
@@ -44,8 +44,8 @@ store-content-spec =
     Inv-loop
     μ-loop
     loop-holds
-    field-at-requires
-    enum-known-tag
+    step-from-requires
+    enum-known-next
     same-length
     returns
     store-field-requires
