@@ -319,3 +319,18 @@ pub fn execute(command: &[u8], store: &mut [u8], session: Session, room: &mut [u
         Verdict::Accepted => carry_out(command, store, flushed, room),
     }
 }
+
+// The same, on the session that the host keeps.
+pub fn execute_in_place(
+    command: &[u8],
+    store: &mut [u8],
+    session: &mut Session,
+    room: &mut [u8],
+) -> u8
+    ensures { λ r. ⌜ executed (record { outcome = r; session = now (session .exit) }) (now (room .exit)) (now (store .exit)) ≡ step (now (command .entry)) (now (room .entry)) (now (store .entry)) (now (session .entry)) ⌝ }
+{
+    let was = *session;
+    let answer = execute(command, store, was, room);
+    *session = answer.session;
+    answer.outcome
+}
