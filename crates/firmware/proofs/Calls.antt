@@ -1,0 +1,38 @@
+-- What a host in C sees is a call of the library: with the session that its four bytes tell, the demands on `execute` and on `run` are demands on
+-- `element_execute` and `element_run`.
+use Prim.Native.Nat.{ℕ}
+use mathlib.Core.Path.{_≡_, ap, _∙_}
+use mathlib.Core.Bool.{true}
+use mathlib.Core.List.{List}
+use Rattle.rules.specs.declared.Session.{Session}
+use Rattle.rules.specs.Step.{After, step}
+use Rattle.element.specs.Executed.{executed}
+use Rattle.runs.specs.Lists.{Lent, Returned, returned, by-rules}
+use Rattle.firmware.specs.declared.HostSession.{HostSession}
+use Rattle.firmware.specs.Host.{session-of, Left, left, in-bytes}
+use Rattle.firmware.specs.Lists.{ListLeft, laid-well, list-left, list-in-bytes}
+use Rattle.firmware.proofs.Bytes.{told-again}
+
+abbrev after : Left → After
+after l = record { outcome = l .outcome; room = l .room; store = l .store; session = session-of (l .session) }
+
+-- a call of `element_execute` meets the contract of `execute`
+pub call-by-rules : (command room store : List ℕ) (b : HostSession) (outcome : ℕ) (room′ store′ : List ℕ) (b′ : HostSession)
+    → left outcome room′ store′ b′ ≡ in-bytes b (step command room store (session-of b))
+    → executed (record { outcome = outcome; session = session-of b′ }) room′ store′ ≡ step command room store (session-of b)
+call-by-rules command room store b outcome room′ store′ b′ e =
+    let a : After = step command room store (session-of b) in
+    ap after e ∙ ap (λ (s : Session). record { outcome = a .outcome; room = a .room; store = a .store; session = s }) (told-again b (a .session))
+
+abbrev given-back : ListLeft → Returned
+given-back l = returned (l .rooms) (l .outcomes) (l .store) (session-of (l .session))
+
+-- a call of `element_run` on a list that is laid out well answers 0 and meets the contract of `run`
+pub run-by-rules : (l : Lent) (b : HostSession) (outcome : ℕ) (rooms′ outcomes′ store′ : List ℕ) (b′ : HostSession) → laid-well l ≡ true
+    → list-left outcome rooms′ outcomes′ store′ b′ ≡ list-in-bytes b l
+    → (outcome ≡ 0) × (returned rooms′ outcomes′ store′ (session-of b′) ≡ by-rules l)
+unfolding list-in-bytes
+run-by-rules l b outcome rooms′ outcomes′ store′ b′ well e =
+    let a : Returned = by-rules l in
+    let f = rw well at e in
+    (ap (λ (x : ListLeft). x .outcome) f, ap given-back f ∙ ap (returned (a .rooms) (a .outcomes) (a .store)) (told-again b (a .session)))

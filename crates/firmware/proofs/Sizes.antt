@@ -1,0 +1,69 @@
+-- Sizes that fit what is lent, and a list of commands where they do.
+use Prim.Native.Nat.{ℕ, suc, _+_, _-_, _≤_, _<_}
+use mathlib.Core.Path.{_≡_, refl, sym, ap, _∙_}
+use mathlib.Core.Bool.{Bool, true, false, _&&_, not}
+use mathlib.Core.List.{List}
+use native.Mathlib.Nat.{add-zero}
+use native.Mathlib.Omega.{arith}
+use lib.ListN.{length, getD, drop, length-drop}
+use lib.Seq.{drop-drop, getD-drop}
+use borrow.Author.Tests.{lt-ltb, le-leb, lt-leb}
+use lib.Dec.{ltb, leb}
+use Rattle.rules.specs.declared.Session.{Session}
+use Rattle.runs.specs.Lists.{Returned, lent, returned, by-rules}
+use Rattle.firmware.specs.declared.HostSession.{HostSession}
+use Rattle.firmware.specs.Host.{session-of, bytes-of}
+use Rattle.firmware.specs.Lists.{all-fit, laid-well, list-left, list-in-bytes}
+
+not-true : (t : Bool) → not t ≡ true → t ≡ false
+not-true true e = sym e
+not-true false e = refl
+
+not-false : (t : Bool) → not t ≡ false → t ≡ true
+not-false true e = refl
+not-false false e = sym e
+
+-- `all_fit`
+module _ (sizes : List ℕ) (count i left : ℕ) (w : Bool) (among : i < count) (told : w ≡ all-fit (count - i) (drop i sizes) left) where
+  next : w ≡ ltb 0 (length sizes - i) && leb (getD sizes i 0) left && all-fit (count - (i + 1)) (drop (i + 1) sizes) (left - getD sizes i 0)
+  unfolding all-fit
+  next =
+      let one : count - i ≡ suc (count - (i + 1)) = omega arith in
+      rw (one, length-drop, getD-drop i sizes 0 0, add-zero, drop-drop) at told
+
+  pub missing : length sizes ≤ i → false ≡ w
+  missing h =
+      let none : length sizes - i ≡ 0 = omega arith in
+      sym (next ∙ rw none refl)
+
+  pub too-large : i < length sizes → left < getD sizes i 0 → false ≡ w
+  too-large h l = sym (next ∙ rw (lt-ltb 0 (length sizes - i) (omega arith), lt-leb (getD sizes i 0) left l) refl)
+
+  pub fitting : i < length sizes → getD sizes i 0 ≤ left → w ≡ all-fit (count - (i + 1)) (drop (i + 1) sizes) (left - getD sizes i 0)
+  fitting h l = next ∙ rw (lt-ltb 0 (length sizes - i) (omega arith), le-leb (getD sizes i 0) left l) refl
+
+-- none is left to look at
+pub all-seen : (sizes : List ℕ) (count i left : ℕ) (w : Bool) → count ≤ i → w ≡ all-fit (count - i) (drop i sizes) left → true ≡ w
+unfolding all-fit
+all-seen sizes count i left w h e =
+    let none : count - i ≡ 0 = omega arith in
+    sym (rw none at e)
+
+-- `run_for_host`
+module _ (was : HostSession) (commands sizes rooms spaces outcomes store : List ℕ) (x y whole : Bool)
+    (ex : x ≡ all-fit (length outcomes) sizes (length commands)) (ey : y ≡ all-fit (length outcomes) spaces (length rooms)) (both : whole ≡ x && y) where
+  well : (s : Session) → whole ≡ laid-well (lent commands sizes rooms spaces outcomes store s)
+  unfolding laid-well
+  well s = both ∙ rw (ex, ey) refl
+
+  pub not-laid : (s : Session) → not whole ≡ true → list-left 2 rooms outcomes store was ≡ list-in-bytes was (lent commands sizes rooms spaces outcomes store s)
+  unfolding list-in-bytes
+  not-laid s n = rw (sym (well s) ∙ not-true whole n) refl
+
+  pub ran : (s after : Session) (b : HostSession) (rooms′ outcomes′ store′ : List ℕ) → not whole ≡ false → s ≡ session-of was
+      → returned rooms′ outcomes′ store′ after ≡ by-rules (lent commands sizes rooms spaces outcomes store s) → b ≡ bytes-of was after
+      → list-left 0 rooms′ outcomes′ store′ b ≡ list-in-bytes was (lent commands sizes rooms spaces outcomes store (session-of was))
+  unfolding list-in-bytes
+  ran s after b rooms′ outcomes′ store′ n e f g =
+      rw (sym (well (session-of was)) ∙ not-false whole n, g, ← e)
+      (ap (λ (a : Returned). list-left 0 (a .rooms) (a .outcomes) (a .store) (bytes-of was (a .session))) f)

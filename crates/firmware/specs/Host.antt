@@ -1,0 +1,35 @@
+-- What a host in C sees of one command: the session in four bytes, and what a call leaves.
+use Prim.Native.Nat.{ℕ, max}
+use mathlib.Core.Bool.{Bool, true, false, not}
+use mathlib.Core.List.{List}
+use lib.Dec.{eqb}
+use Rattle.rules.specs.declared.Session.{Session}
+use Rattle.rules.specs.Step.{After}
+use Rattle.firmware.specs.declared.HostSession.{HostSession}
+
+-- the session that four bytes tell: opened is 0 for closed, any other byte for open
+unfoldable pub session-of : HostSession → Session
+session-of b = record { opened = not (eqb (b .opened) 0); lcsg = b .lcsg; lcsa = b .lcsa; error = b .error }
+
+-- opened, where it was a byte: it keeps that byte while it tells the same, else it is 1 or 0
+unfoldable pub opened-byte : ℕ → Bool → ℕ
+opened-byte was true = max was 1
+opened-byte was false = 0
+
+-- the bytes of a session, where it was these
+unfoldable pub bytes-of : HostSession → Session → HostSession
+bytes-of was s = record { opened = opened-byte (was .opened) (s .opened); lcsg = s .lcsg; lcsa = s .lcsa; error = s .error }
+
+-- what a call leaves
+pub record Left : Type 0 where
+  pub outcome : ℕ
+  pub room : List ℕ
+  pub store : List ℕ
+  pub session : HostSession
+
+abbrev pub left : ℕ → List ℕ → List ℕ → HostSession → Left
+left outcome room store session = record { outcome = outcome; room = room; store = store; session = session }
+
+-- what stands after a command by the rules, with the session in bytes
+abbrev pub in-bytes : HostSession → After → Left
+in-bytes was a = left (a .outcome) (a .room) (a .store) (bytes-of was (a .session))

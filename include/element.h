@@ -1,0 +1,180 @@
+/*
+ * The secure element's object store: get, set, open and close of numbered objects, proved against its rules.
+ *
+ * Link libfirmware.a (`make library`). The library takes no memory of its own, keeps nothing between calls, and calls nothing but memset. Calls
+ * on different buffers may run at the same time.
+ *
+ * What a caller owes: each pointer is good for the length that follows it, for the whole call, and no two buffers of one call overlap,
+ * except that `const` ones may. A pointer whose length is 0 may be NULL; a session may not. Everything else is handled: no byte of a
+ * command, a store, a session or a room, and no length, leads to anything but the answers below. Where a pointer might be NULL, call the
+ * `_checked` functions at the end of this file.
+ *
+ * Numbers in commands and responses stand most significant byte first.
+ */
+#ifndef ELEMENT_H
+#define ELEMENT_H
+
+#include <stdbool.h>
+#include <stddef.h>
+#include <stdint.h>
+
+#ifdef __cplusplus
+extern "C" {
+#endif
+
+/* Outcome numbers: what a call returns. */
+enum {
+    ELEMENT_ANSWERED = 0,  /* a response stands at the front of the room (or: the call did its work) */
+    ELEMENT_NO_ROOM = 1,   /* the room is under 4 bytes: no response, nothing changed */
+    ELEMENT_WRONG_SIZE = 2 /* a buffer has not the size that the call needs: nothing changed */
+};
+
+/* The first byte of a response. */
+enum {
+    ELEMENT_STATUS_DONE = 0x00,
+    ELEMENT_STATUS_REFUSED = 0xFF /* the response is FF 00 00 00; the number of the refusal is in the last error */
+};
+
+/* Why a command is refused: the numbers that the last error takes. The highest is kept until it is read or flushed. */
+enum {
+    ELEMENT_NO_ERROR = 0x00,
+    ELEMENT_INVALID_OBJECT = 0x01,     /* no such object */
+    ELEMENT_INVALID_PARAM = 0x03,      /* unknown Param for this Cmd */
+    ELEMENT_INVALID_LENGTH = 0x04,     /* the command's length, or InLen, is wrong */
+    ELEMENT_INVALID_DATA = 0x05,       /* metadata, life cycle value or application identifier not allowed */
+    ELEMENT_INTERNAL_ERROR = 0x06,     /* the store is malformed, or LcsG or LcsA is no state */
+    ELEMENT_ACCESS_DENIED = 0x07,      /* the access condition does not hold */
+    ELEMENT_BOUNDARY_EXCEEDED = 0x08,  /* past the bytes in use (get) or past the maximum (write) */
+    ELEMENT_INVALID_COMMAND = 0x0A,    /* unknown Cmd */
+    ELEMENT_NOT_AVAILABLE = 0x0C,      /* the application is closed, or terminated */
+    ELEMENT_INSUFFICIENT_BUFFER = 0x0D /* the response does not fit the room */
+};
+
+/* Life cycle states. */
+enum {
+    ELEMENT_CREATION = 0x01,
+    ELEMENT_INITIALISATION = 0x03,
+    ELEMENT_OPERATIONAL = 0x07,
+    ELEMENT_TERMINATION = 0x0F
+};
+
+/* Commands: Cmd, and Param. With ELEMENT_FLUSH set in Cmd, the last error becomes 0 first. */
+enum {
+    ELEMENT_GET = 0x01,
+    ELEMENT_SET = 0x02,
+    ELEMENT_OPEN = 0x70,
+    ELEMENT_CLOSE = 0x71,
+    ELEMENT_FLUSH = 0x80,
+    ELEMENT_DATA = 0x00,           /* get, set */
+    ELEMENT_METADATA = 0x01,       /* get, set */
+    ELEMENT_ERASE_AND_WRITE = 0x40 /* set */
+};
+
+/* The identifier that opens the application. */
+#define ELEMENT_IDENTIFIER "\xD2\x76\x00\x00\x04GenAuthAppl"
+enum { ELEMENT_IDENTIFIER_SIZE = 16 };
+
+/* The objects that live in the session. */
+enum {
+    ELEMENT_LCSG = 0xE0C0,
+    ELEMENT_LCSA = 0xF1C0,
+    ELEMENT_LAST_ERROR = 0xF1C2
+};
+
+/* Sizes, in bytes. */
+enum {
+    ELEMENT_FACTORY_STORE_SIZE = 6024, /* what element_make_factory_store needs, exactly */
+    ELEMENT_LARGEST_STORE = 16384,
+    ELEMENT_LARGEST_OBJECT = 1500,
+    ELEMENT_LARGEST_COMMAND = 1557,
+    ELEMENT_HEADER = 4,         /* what stands before InData in a command, and before OutData in a response */
+    ELEMENT_LEAST_ROOM = 4,     /* enough for a status */
+    ELEMENT_LARGEST_ROOM = 1504 /* enough for every response */
+};
+
+/*
+ * What the element keeps between commands. The host keeps it, beside the store.
+ * Every value of every byte has a meaning. opened: 0 is closed, any other value is open; its value changes only when the
+ * application's state does, to 1 or 0. lcsg and lcsa: a value that is no life cycle state gets every command refused with 06. error: the last error.
+ */
+typedef struct element_session {
+    uint8_t opened;
+    uint8_t lcsg;
+    uint8_t lcsa;
+    uint8_t error;
+} element_session;
+
+/*
+ * Carries out one command. There is an answer to every command, store, session and room.
+ * Returns ELEMENT_ANSWERED with a response at the front of the room, or ELEMENT_NO_ROOM with nothing changed.
+ * A response is status, 00, OutLen in two bytes, OutData. Room bytes behind it keep their values.
+ * A refused command changes no byte of the store and, of the session, only the last error, which after any flush is the larger of
+ * itself and the number of the refusal. Room, store and session after a call are exactly those that the rules give.
+ */
+uint8_t element_execute(const uint8_t *command, size_t command_len, uint8_t *store, size_t store_len, element_session *session, uint8_t *room, size_t room_len);
+
+/*
+ * Carries out a list of commands, each on what the one before left, exactly as that many calls of element_execute would: commands
+ * stand end to end, the i-th is sizes[i] bytes long; rooms stand end to end, the i-th is spaces[i] bytes long; the i-th outcome
+ * number goes to outcomes[i]. There are as many commands as outcomes. (The value of the session's `opened` changes only if the
+ * application ends in another state than it began in.)
+ * Returns ELEMENT_ANSWERED; or ELEMENT_WRONG_SIZE with nothing changed, if there are fewer sizes or spaces than outcomes, or if they add up
+ * to more than commands_len or rooms_len. Sizes and spaces past the last outcome are not looked at.
+ */
+uint8_t element_run(const uint8_t *commands, size_t commands_len, const size_t *sizes, size_t sizes_count, uint8_t *store, size_t store_len, element_session *session, uint8_t *rooms, size_t rooms_len, const size_t *spaces, size_t spaces_count, uint8_t *outcomes, size_t outcomes_count);
+
+/* Whether the store is well formed. Every command on a store that is not is refused with 06. */
+bool element_check_store(const uint8_t *store, size_t store_len);
+
+/*
+ * Fills the store with the fourteen objects of the factory table and returns ELEMENT_ANSWERED; or returns ELEMENT_WRONG_SIZE with nothing
+ * changed, if store_len is not ELEMENT_FACTORY_STORE_SIZE.
+ */
+uint8_t element_make_factory_store(uint8_t *store, size_t store_len);
+
+/* The session of a new element: closed, LcsG 01, LcsA 01, last error 0. */
+element_session element_fresh_session(void);
+
+/*
+ * The same for pointers that may be NULL, whatever their length. A NULL session, or a NULL room of element_execute_checked, is
+ * ELEMENT_NO_ROOM; any other NULL with a length above 0 is ELEMENT_WRONG_SIZE. Then nothing is changed. A NULL store is not well formed, and
+ * too small for the factory's.
+ */
+static inline bool element_missing(const void *buffer, size_t length)
+{
+    return buffer == NULL && length != 0;
+}
+
+static inline uint8_t element_execute_checked(const uint8_t *command, size_t command_len, uint8_t *store, size_t store_len, element_session *session, uint8_t *room, size_t room_len)
+{
+    if (session == NULL || room == NULL)
+        return ELEMENT_NO_ROOM;
+    if (element_missing(command, command_len) || element_missing(store, store_len))
+        return ELEMENT_WRONG_SIZE;
+    return element_execute(command, command_len, store, store_len, session, room, room_len);
+}
+
+static inline uint8_t element_run_checked(const uint8_t *commands, size_t commands_len, const size_t *sizes, size_t sizes_count, uint8_t *store, size_t store_len, element_session *session, uint8_t *rooms, size_t rooms_len, const size_t *spaces, size_t spaces_count, uint8_t *outcomes, size_t outcomes_count)
+{
+    if (session == NULL)
+        return ELEMENT_NO_ROOM;
+    if (element_missing(commands, commands_len) || element_missing(sizes, sizes_count) || element_missing(store, store_len) || element_missing(rooms, rooms_len) || element_missing(spaces, spaces_count) || element_missing(outcomes, outcomes_count))
+        return ELEMENT_WRONG_SIZE;
+    return element_run(commands, commands_len, sizes, sizes_count, store, store_len, session, rooms, rooms_len, spaces, spaces_count, outcomes, outcomes_count);
+}
+
+static inline bool element_check_store_checked(const uint8_t *store, size_t store_len)
+{
+    return store != NULL && element_check_store(store, store_len);
+}
+
+static inline uint8_t element_make_factory_store_checked(uint8_t *store, size_t store_len)
+{
+    return store == NULL ? (uint8_t)ELEMENT_WRONG_SIZE : element_make_factory_store(store, store_len);
+}
+
+#ifdef __cplusplus
+}
+#endif
+
+#endif
