@@ -1,0 +1,728 @@
+/*
+ * Every misuse of the C interface that its types allow, each with the answer that include/element.h and document 01 give, written by hand.
+ * Prints the number of checks; at the first that fails, what was expected, and exits 1.
+ *
+ *   gcc -std=c99 -O2 -Iinclude tests/misuse.c target/staticlib/libfirmware.a -o misuse
+ */
+#include <stdarg.h>
+#include <stdio.h>
+#include <stdlib.h>
+#include <string.h>
+
+#include "element.h"
+
+enum {
+    STORE = ELEMENT_FACTORY_STORE_SIZE,
+    ROOM = 64,
+    FILL = 0xEE,
+    OLD_ERROR = 0x02,  /* a last error that is no refusal: above 01, below the others */
+    METADATA_SIZE = 28 /* the response to a get of the factory's metadata */
+};
+
+/* All that a call may change, with bytes around it that it may not. */
+typedef struct fixture {
+    uint8_t before[16];
+    uint8_t store[STORE];
+    uint8_t between[16];
+    uint8_t room[ROOM];
+    uint8_t outcomes[8];
+    uint8_t behind[16];
+    element_session session;
+} fixture;
+
+static const uint8_t OPEN[] = {0x70, 0x00, 0x00, 0x10, 0xD2, 0x76, 0x00, 0x00, 0x04, 0x47, 0x65, 0x6E, 0x41, 0x75, 0x74, 0x68, 0x41, 0x70, 0x70, 0x6C};
+static const uint8_t OPEN_OTHER[] = {0x70, 0x00, 0x00, 0x10, 0xD2, 0x76, 0x00, 0x00, 0x04, 0x47, 0x65, 0x6E, 0x41, 0x75, 0x74, 0x68, 0x41, 0x70, 0x70, 0x6D};
+static const uint8_t CLOSE[] = {0x71, 0x00, 0x00, 0x00};
+static const uint8_t METADATA[] = {0x01, 0x01, 0x00, 0x02, 0xF1, 0xD0};
+static const uint8_t FLUSHED_METADATA[] = {0x81, 0x01, 0x00, 0x02, 0xF1, 0xD0};
+static const uint8_t NO_OBJECT[] = {0x01, 0x01, 0x00, 0x02, 0x12, 0x34};
+static const uint8_t FLUSHED_NO_OBJECT[] = {0x81, 0x01, 0x00, 0x02, 0x12, 0x34};
+static const uint8_t READ_ERROR[] = {0x01, 0x00, 0x00, 0x06, 0xF1, 0xC2, 0x00, 0x00, 0x00, 0x01};
+static const uint8_t WRITE[] = {0x02, 0x00, 0x00, 0x06, 0xF1, 0xD0, 0x00, 0x00, 0xAB, 0xCD};
+static const uint8_t WRITE_PAST[] = {0x02, 0x00, 0x00, 0x06, 0xF1, 0xD0, 0x00, 0x8B, 0xAB, 0xCD};
+static const uint8_t READ_BACK[] = {0x01, 0x00, 0x00, 0x06, 0xF1, 0xD0, 0x00, 0x00, 0x00, 0x02};
+
+/* The answers. */
+static const uint8_t DONE[] = {0x00, 0x00, 0x00, 0x00};
+static const uint8_t REFUSED[] = {0xFF, 0x00, 0x00, 0x00};
+static const uint8_t METADATA_ANSWER[METADATA_SIZE] = {
+    0x00, 0x00, 0x00, 0x18, 0x20, 0x16, 0xC0, 0x01, 0x01, 0xC4, 0x02, 0x00, 0x8C, 0xC5, 0x02, 0x00, 0x00, 0xD0, 0x03, 0xE1, 0xFC, 0x07,
+    0xD1, 0x01, 0x00, 0xD3, 0x01, 0x00
+};
+
+static fixture now;
+static fixture was;
+static unsigned checks;
+
+static void expect(bool holds, const char *expected, ...)
+{
+    va_list values;
+    checks++;
+    if (holds)
+        return;
+    printf("check %u: expected ", checks);
+    va_start(values, expected);
+    vprintf(expected, values);
+    va_end(values);
+    putchar('\n');
+    exit(1);
+}
+
+/* The factory store, a session, and rooms full of FILL; what stands in `was` is the same. */
+static void begin(uint8_t opened, uint8_t lcsg, uint8_t lcsa, uint8_t error)
+{
+    memset(&now, FILL, sizeof now);
+    if (element_make_factory_store(now.store, STORE) != ELEMENT_ANSWERED) {
+        puts("the factory store cannot be made");
+        exit(1);
+    }
+    now.session.opened = opened;
+    now.session.lcsg = lcsg;
+    now.session.lcsa = lcsa;
+    now.session.error = error;
+    was = now;
+}
+
+static void begin_open(void)
+{
+    begin(1, 1, 1, OLD_ERROR);
+}
+
+static uint8_t execute(const uint8_t *command, size_t length, size_t room)
+{
+    return element_execute(command, length, now.store, STORE, &now.session, now.room, room);
+}
+
+static bool unchanged(void)
+{
+    return memcmp(&now, &was, sizeof now) == 0;
+}
+
+static void put_was_session(uint8_t opened, uint8_t error)
+{
+    was.session.opened = opened;
+    was.session.error = error;
+}
+
+/* Whether the response stands at the front of the room, and nothing but it, opened and the last error is changed. */
+static bool left(const uint8_t *response, size_t length, uint8_t opened, uint8_t error)
+{
+    memcpy(was.room, response, length);
+    put_was_session(opened, error);
+    return unchanged();
+}
+
+static bool refused(uint8_t error)
+{
+    return left(REFUSED, sizeof REFUSED, was.session.opened, error);
+}
+
+static uint8_t larger(uint8_t a, uint8_t b)
+{
+    return a > b ? a : b;
+}
+
+static bool is_state(unsigned byte)
+{
+    return byte == 0x01 || byte == 0x03 || byte == 0x07 || byte == 0x0F;
+}
+
+/* NULL with length 0. */
+
+static void check_null_without_length(void)
+{
+    begin_open();
+    expect(execute(NULL, 0, ROOM) == 0, "outcome 0 for no command at NULL");
+    expect(refused(0x04), "refusal 04 for no command at NULL");
+
+    begin_open();
+    expect(element_execute(METADATA, sizeof METADATA, NULL, 0, &now.session, now.room, ROOM) == 0, "outcome 0 for no store at NULL");
+    expect(refused(0x06), "refusal 06 for no store at NULL");
+
+    begin_open();
+    expect(element_execute(FLUSHED_METADATA, sizeof FLUSHED_METADATA, now.store, STORE, &now.session, NULL, 0) == 1,
+        "outcome 1 for no room at NULL");
+    expect(unchanged(), "nothing changed for no room at NULL");
+
+    begin_open();
+    expect(element_execute(NULL, 0, NULL, 0, &now.session, NULL, 0) == 1, "outcome 1 for nothing but a session");
+    expect(unchanged(), "the session unchanged for nothing but a session");
+
+    begin_open();
+    expect(element_execute(NULL, 0, NULL, 0, &now.session, now.room, ROOM) == 0, "outcome 0 for no command and no store");
+    expect(refused(0x06), "refusal 06 for no command and no store");
+
+    expect(!element_check_store(NULL, 0), "a store of no bytes is malformed");
+    expect(element_make_factory_store(NULL, 0) == 2, "outcome 2 for a factory store of no bytes");
+}
+
+static void check_null_lists(void)
+{
+    begin_open();
+    expect(element_run(NULL, 0, NULL, 0, NULL, 0, &now.session, NULL, 0, NULL, 0, NULL, 0) == 0, "outcome 0 for a list of nothing");
+    expect(unchanged(), "the session unchanged by a list of nothing");
+
+    static const size_t sizes[] = {0};
+    static const size_t spaces[] = {4};
+    begin_open();
+    expect(element_run(NULL, 0, sizes, 1, now.store, STORE, &now.session, now.room, 4, spaces, 1, now.outcomes, 1) == 0,
+        "outcome 0 for a list of one empty command at NULL");
+    was.outcomes[0] = 0;
+    expect(refused(0x04), "refusal 04 for a list of one empty command at NULL");
+
+    begin_open();
+    expect(element_run(NULL, 0, sizes, 1, now.store, STORE, &now.session, NULL, 0, sizes, 1, now.outcomes, 1) == 0,
+        "outcome 0 for a list with no rooms at NULL");
+    was.outcomes[0] = 1;
+    expect(unchanged(), "outcome 1 of the command, and nothing else changed, for a list with no rooms at NULL");
+
+    begin_open();
+    expect(element_run(NULL, 0, NULL, 0, now.store, STORE, &now.session, now.room, 4, spaces, 1, now.outcomes, 1) == 2,
+        "outcome 2 for a list without sizes");
+    expect(unchanged(), "nothing changed for a list without sizes");
+}
+
+/* NULL with a length, by the _checked functions. */
+
+static uint8_t checked(const uint8_t *command, size_t length, uint8_t *store, element_session *session, uint8_t *room)
+{
+    return element_execute_checked(command, length, store, STORE, session, room, ROOM);
+}
+
+static void check_null_with_length(void)
+{
+    const uint8_t *flushed = FLUSHED_NO_OBJECT;
+    size_t length = sizeof FLUSHED_NO_OBJECT;
+
+    begin_open();
+    expect(checked(NULL, length, now.store, &now.session, now.room) == 2 && unchanged(),
+        "outcome 2 and nothing changed for a NULL command");
+    expect(checked(NULL, SIZE_MAX, now.store, &now.session, now.room) == 2 && unchanged(),
+        "outcome 2 and nothing changed for a NULL command of SIZE_MAX bytes");
+    expect(checked(flushed, length, NULL, &now.session, now.room) == 2 && unchanged(), "outcome 2 and nothing changed for a NULL store");
+    expect(checked(flushed, length, now.store, NULL, now.room) == 1 && unchanged(), "outcome 1 and nothing changed for a NULL session");
+    expect(checked(flushed, length, now.store, &now.session, NULL) == 1 && unchanged(), "outcome 1 and nothing changed for a NULL room");
+    expect(checked(NULL, length, NULL, NULL, NULL) == 1 && unchanged(), "outcome 1 and nothing changed for NULL everywhere");
+    expect(checked(NULL, length, now.store, &now.session, NULL) == 1 && unchanged(),
+        "outcome 1 for a NULL room before 2 for a NULL command");
+    expect(element_execute_checked(flushed, length, now.store, STORE, &now.session, NULL, 0) == 1 && unchanged(),
+        "outcome 1 and nothing changed for a NULL room of no bytes");
+
+    expect(checked(NULL, 0, now.store, &now.session, now.room) == 0 && refused(0x04), "refusal 04 for no command at NULL, checked");
+    begin_open();
+    expect(element_execute_checked(flushed, length, NULL, 0, &now.session, now.room, ROOM) == 0 && refused(0x06),
+        "refusal 06 for no store at NULL, checked");
+    begin_open();
+    expect(checked(flushed, length, now.store, &now.session, now.room) == 0 && refused(0x01), "refusal 01 after a flush, checked");
+
+    expect(!element_check_store_checked(NULL, STORE) && !element_check_store_checked(NULL, 0), "a NULL store is malformed, checked");
+    expect(element_check_store_checked(now.store, STORE), "the factory store is well formed, checked");
+    expect(element_make_factory_store_checked(NULL, STORE) == 2 && element_make_factory_store_checked(NULL, 0) == 2,
+        "outcome 2 for a NULL factory store, checked");
+    memset(now.store, FILL, STORE);
+    expect(element_make_factory_store_checked(now.store, STORE) == 0 && unchanged(), "the factory store made, checked");
+}
+
+static const size_t ONE_SIZE[] = {sizeof FLUSHED_NO_OBJECT};
+static const size_t ONE_SPACE[] = {4};
+
+static uint8_t run_checked(const uint8_t *commands, const size_t *sizes, uint8_t *store, element_session *session, uint8_t *rooms, const size_t *spaces, uint8_t *outcomes)
+{
+    return element_run_checked(commands, sizeof FLUSHED_NO_OBJECT, sizes, 1, store, STORE, session, rooms, 4, spaces, 1, outcomes, 1);
+}
+
+static void check_null_lists_with_length(void)
+{
+    const uint8_t *list = FLUSHED_NO_OBJECT;
+
+    begin_open();
+    expect(run_checked(NULL, ONE_SIZE, now.store, &now.session, now.room, ONE_SPACE, now.outcomes) == 2 && unchanged(),
+        "outcome 2 and nothing changed for a list of NULL commands");
+    expect(run_checked(list, NULL, now.store, &now.session, now.room, ONE_SPACE, now.outcomes) == 2 && unchanged(),
+        "outcome 2 and nothing changed for a list with NULL sizes");
+    expect(run_checked(list, ONE_SIZE, NULL, &now.session, now.room, ONE_SPACE, now.outcomes) == 2 && unchanged(),
+        "outcome 2 and nothing changed for a list on a NULL store");
+    expect(run_checked(list, ONE_SIZE, now.store, NULL, now.room, ONE_SPACE, now.outcomes) == 1 && unchanged(),
+        "outcome 1 and nothing changed for a list on a NULL session");
+    expect(run_checked(list, ONE_SIZE, now.store, &now.session, NULL, ONE_SPACE, now.outcomes) == 2 && unchanged(),
+        "outcome 2 and nothing changed for a list with NULL rooms");
+    expect(run_checked(list, ONE_SIZE, now.store, &now.session, now.room, NULL, now.outcomes) == 2 && unchanged(),
+        "outcome 2 and nothing changed for a list with NULL spaces");
+    expect(run_checked(list, ONE_SIZE, now.store, &now.session, now.room, ONE_SPACE, NULL) == 2 && unchanged(),
+        "outcome 2 and nothing changed for a list with NULL outcomes");
+    expect(run_checked(NULL, NULL, NULL, NULL, NULL, NULL, NULL) == 1 && unchanged(),
+        "outcome 1 and nothing changed for a list with NULL everywhere");
+    expect(run_checked(list, ONE_SIZE, now.store, &now.session, now.room, ONE_SPACE, now.outcomes) == 0,
+        "outcome 0 for a list of one, checked");
+    was.outcomes[0] = 0;
+    expect(refused(0x01), "refusal 01 after a flush for a list of one, checked");
+    begin_open();
+    expect(element_run_checked(NULL, 0, NULL, 0, NULL, 0, &now.session, NULL, 0, NULL, 0, NULL, 0) == 0 && unchanged(),
+        "outcome 0 and nothing changed for a list of nothing, checked");
+}
+
+/* Rooms of 0 to 3 bytes. */
+
+static void check_small_room(size_t room)
+{
+    begin_open();
+    expect(execute(FLUSHED_METADATA, sizeof FLUSHED_METADATA, room) == 1, "outcome 1 for a get with a room of %zu", room);
+    expect(unchanged(), "nothing changed, not even by the flush bit, with a room of %zu", room);
+    expect(execute(FLUSHED_NO_OBJECT, sizeof FLUSHED_NO_OBJECT, room) == 1 && unchanged(),
+        "outcome 1 and nothing changed for a refusal with a room of %zu", room);
+    expect(execute(WRITE, sizeof WRITE, room) == 1 && unchanged(), "outcome 1 and nothing changed for a write with a room of %zu", room);
+    expect(execute(CLOSE, sizeof CLOSE, room) == 1 && unchanged(), "outcome 1 and nothing changed for a close with a room of %zu", room);
+    expect(execute(READ_ERROR, sizeof READ_ERROR, room) == 1 && unchanged(),
+        "outcome 1 and nothing changed for a get of the last error with a room of %zu", room);
+    expect(execute(NULL, 0, room) == 1 && unchanged(), "outcome 1 and nothing changed for an empty command with a room of %zu", room);
+
+    begin(0, 1, 1, 0xFF);
+    expect(execute(OPEN, sizeof OPEN, room) == 1 && unchanged(), "outcome 1 and nothing changed for an open with a room of %zu", room);
+    begin(1, 0xAA, 0x55, 0xFF);
+    expect(execute(FLUSHED_METADATA, sizeof FLUSHED_METADATA, room) == 1 && unchanged(),
+        "outcome 1 before 06 for a session with no state and a room of %zu", room);
+    begin_open();
+    now.store[0] ^= 1;
+    was = now;
+    expect(execute(FLUSHED_METADATA, sizeof FLUSHED_METADATA, room) == 1 && unchanged(),
+        "outcome 1 before 06 for a malformed store and a room of %zu", room);
+}
+
+static void check_small_rooms(void)
+{
+    for (size_t room = 0; room < ELEMENT_LEAST_ROOM; room++)
+        check_small_room(room);
+    for (size_t room = ELEMENT_LEAST_ROOM; room < METADATA_SIZE; room++) {
+        begin_open();
+        expect(execute(FLUSHED_METADATA, sizeof FLUSHED_METADATA, room) == 0 && refused(0x0D),
+            "refusal 0D after a flush for metadata with a room of %zu", room);
+    }
+    begin_open();
+    expect(execute(FLUSHED_METADATA, sizeof FLUSHED_METADATA, METADATA_SIZE) == 0 && left(METADATA_ANSWER, METADATA_SIZE, 1, 0),
+        "the metadata after a flush with a room of 28");
+}
+
+/* A room of more than 16 bits of length: the response at its front, the rest untouched. */
+static void check_large_room(void)
+{
+    static uint8_t room[70000];
+    memset(room, FILL, sizeof room);
+    begin_open();
+    expect(element_execute(METADATA, sizeof METADATA, now.store, STORE, &now.session, room, sizeof room) == 0 && unchanged(),
+        "outcome 0 for metadata with a room of 70,000");
+    expect(memcmp(room, METADATA_ANSWER, METADATA_SIZE) == 0, "the metadata with a room of 70,000");
+    size_t at = METADATA_SIZE;
+    while (at < sizeof room && room[at] == FILL)
+        at++;
+    expect(at == sizeof room, "byte %zu of a room of 70,000 untouched", at);
+}
+
+/* Every value of session.opened: 0 is closed, any other is open. */
+
+static void check_opened_kept(uint8_t opened)
+{
+    begin(opened, 1, 1, OLD_ERROR);
+    expect(execute(METADATA, sizeof METADATA, ROOM) == 0, "outcome 0 for metadata with opened %u", opened);
+    if (opened == 0)
+        expect(refused(0x0C), "refusal 0C for metadata while closed");
+    else
+        expect(left(METADATA_ANSWER, METADATA_SIZE, opened, OLD_ERROR), "the metadata and the same byte with opened %u", opened);
+
+    begin(opened, 1, 1, 0);
+    expect(execute(NO_OBJECT, sizeof NO_OBJECT, ROOM) == 0, "outcome 0 for no such object with opened %u", opened);
+    expect(refused(opened == 0 ? 0x0C : 0x01), "refusal %s and the same byte with opened %u", opened == 0 ? "0C" : "01", opened);
+
+    begin(opened, 1, 1, OLD_ERROR);
+    expect(execute(OPEN_OTHER, sizeof OPEN_OTHER, ROOM) == 0 && refused(0x05),
+        "refusal 05 for another identifier and the same byte with opened %u", opened);
+
+    begin(opened, 1, 1, OLD_ERROR);
+    expect(execute(NULL, 0, ROOM) == 0 && refused(0x04), "refusal 04 for an empty command and the same byte with opened %u", opened);
+
+    begin(opened, 1, 1, OLD_ERROR);
+    expect(execute(WRITE, sizeof WRITE, ROOM) == 0 && now.session.opened == opened, "the same byte after a write with opened %u", opened);
+}
+
+static void check_opened_changed(uint8_t opened)
+{
+    begin(opened, 1, 1, OLD_ERROR);
+    expect(execute(OPEN, sizeof OPEN, ROOM) == 0, "outcome 0 for open with opened %u", opened);
+    expect(left(DONE, sizeof DONE, opened == 0 ? 1 : opened, OLD_ERROR), "opened %u after open from %u", opened == 0 ? 1 : opened, opened);
+
+    begin(opened, 1, 1, OLD_ERROR);
+    expect(execute(CLOSE, sizeof CLOSE, ROOM) == 0, "outcome 0 for close with opened %u", opened);
+    if (opened == 0)
+        expect(refused(0x0C), "refusal 0C for close while closed");
+    else
+        expect(left(DONE, sizeof DONE, 0, OLD_ERROR), "opened 0 after close from %u", opened);
+}
+
+/* A list writes the byte only if the application ends in another state than it began in. */
+static void check_opened_by_list(uint8_t opened)
+{
+    static const size_t sizes[] = {sizeof CLOSE, sizeof OPEN, sizeof CLOSE};
+    static const size_t spaces[] = {0, 4, 4};
+    uint8_t list[2 * sizeof CLOSE + sizeof OPEN];
+    memcpy(list, CLOSE, sizeof CLOSE);
+    memcpy(list + sizeof CLOSE, OPEN, sizeof OPEN);
+    memcpy(list + sizeof CLOSE + sizeof OPEN, CLOSE, sizeof CLOSE);
+
+    /* close and open, each with room */
+    begin(opened, 1, 1, OLD_ERROR);
+    expect(element_run(list, sizeof list, sizes, 3, now.store, STORE, &now.session, now.room, ROOM, spaces + 1, 2, now.outcomes, 1) == 0,
+        "outcome 0 for a list of close with opened %u", opened);
+    expect(now.session.opened == 0, "opened 0 after a list of close from %u", opened);
+
+    begin(opened, 1, 1, OLD_ERROR);
+    expect(element_run(list, sizeof list, sizes, 3, now.store, STORE, &now.session, now.room, ROOM, spaces + 1, 2, now.outcomes, 2) == 0,
+        "outcome 0 for a list of close, open with opened %u", opened);
+    expect(now.session.opened == (opened == 0 ? 1 : opened),
+        "opened %u after a list of close, open from %u", opened == 0 ? 1 : opened, opened);
+    expect(now.session.error == (opened == 0 ? 0x0C : OLD_ERROR),
+        "the last error %s after a list of close, open from %u", opened == 0 ? "0C" : "02", opened);
+
+    /* the first close has no room, so the application opens and closes */
+    begin(opened, 1, 1, OLD_ERROR);
+    expect(element_run(list, sizeof list, sizes, 3, now.store, STORE, &now.session, now.room, ROOM, spaces, 3, now.outcomes, 3) == 0,
+        "outcome 0 for a list of three with opened %u", opened);
+    memcpy(was.room, DONE, 4);
+    memcpy(was.room + 4, DONE, 4);
+    memcpy(was.outcomes, "\1\0\0", 3);
+    put_was_session(0, OLD_ERROR);
+    expect(unchanged(), "outcomes 1 0 0 and opened 0 after a list of open, close from %u", opened);
+}
+
+static void check_opened(void)
+{
+    for (unsigned opened = 0; opened < 256; opened++) {
+        check_opened_kept((uint8_t)opened);
+        check_opened_changed((uint8_t)opened);
+        check_opened_by_list((uint8_t)opened);
+    }
+}
+
+/* Session bytes that are no state, and every last error. */
+
+static void check_states(void)
+{
+    for (unsigned byte = 0; byte < 256; byte++) {
+        begin(1, (uint8_t)byte, 1, OLD_ERROR);
+        expect(execute(METADATA, sizeof METADATA, ROOM) == 0, "outcome 0 with LcsG %02X", byte);
+        if (is_state(byte))
+            expect(left(METADATA_ANSWER, METADATA_SIZE, 1, OLD_ERROR), "the metadata with LcsG %02X", byte);
+        else
+            expect(refused(0x06), "refusal 06 with LcsG %02X", byte);
+
+        begin(1, 1, (uint8_t)byte, OLD_ERROR);
+        expect(execute(METADATA, sizeof METADATA, ROOM) == 0, "outcome 0 with LcsA %02X", byte);
+        if (!is_state(byte))
+            expect(refused(0x06), "refusal 06 with LcsA %02X", byte);
+        else if (byte == 0x0F)
+            expect(refused(0x0C), "refusal 0C with LcsA 0F");
+        else
+            expect(left(METADATA_ANSWER, METADATA_SIZE, 1, OLD_ERROR), "the metadata with LcsA %02X", byte);
+
+        begin(0, (uint8_t)byte, (uint8_t)byte, 0xFF);
+        expect(execute(OPEN, sizeof OPEN, ROOM) == 0, "outcome 0 for open with LcsG and LcsA %02X", byte);
+        if (is_state(byte) && byte != 0x0F)
+            expect(left(DONE, sizeof DONE, 1, 0xFF), "opened with LcsG and LcsA %02X", byte);
+        else
+            expect(refused(0xFF), "not opened with LcsG and LcsA %02X", byte);
+    }
+}
+
+static void check_errors(void)
+{
+    for (unsigned byte = 0; byte < 256; byte++) {
+        uint8_t error = (uint8_t)byte;
+        begin(1, 1, 1, error);
+        expect(execute(WRITE_PAST, sizeof WRITE_PAST, ROOM) == 0 && refused(larger(error, 0x08)),
+            "the larger of 08 and the last error %02X after a refusal", byte);
+
+        begin(1, 1, 1, error);
+        expect(execute(FLUSHED_NO_OBJECT, sizeof FLUSHED_NO_OBJECT, ROOM) == 0 && refused(0x01),
+            "the last error 01 after a flush of %02X", byte);
+
+        begin(1, 1, 1, error);
+        const uint8_t read[] = {0x00, 0x00, 0x00, 0x01, error};
+        expect(execute(READ_ERROR, sizeof READ_ERROR, ROOM) == 0 && left(read, sizeof read, 1, 0),
+            "the last error %02X read and cleared", byte);
+    }
+}
+
+/* Factory buffers and stores of other sizes. */
+
+static void check_factory(void)
+{
+    static const size_t wrong[] = {STORE - 1, STORE + 1, 0, 1, ELEMENT_LARGEST_STORE};
+    static uint8_t buffer[ELEMENT_LARGEST_STORE];
+    static uint8_t filled[ELEMENT_LARGEST_STORE];
+    memset(buffer, FILL, sizeof buffer);
+    memset(filled, FILL, sizeof filled);
+    for (size_t i = 0; i < sizeof wrong / sizeof wrong[0]; i++) {
+        expect(element_make_factory_store(buffer, wrong[i]) == 2, "outcome 2 for a factory store of %zu bytes", wrong[i]);
+        expect(memcmp(buffer, filled, sizeof buffer) == 0, "a factory buffer of %zu bytes untouched", wrong[i]);
+    }
+    expect(element_make_factory_store(buffer, STORE) == 0, "outcome 0 for a factory store of 6,024 bytes");
+    expect(element_check_store(buffer, STORE), "the factory store well formed");
+    expect(memcmp(buffer + STORE, filled + STORE, sizeof buffer - STORE) == 0, "bytes behind the factory store untouched");
+    static const uint8_t front[] = {0xEC, 0x00, 0x01, 0x00, 0xD0, 0xF1, 0x8C, 0x00, 0x00, 0x00, 0x01, 0x00, 0x03, 0xE1, 0xFC, 0x07};
+    expect(memcmp(buffer, front, sizeof front) == 0, "the record of F1D0 at the front of the factory store");
+}
+
+/* A store cut behind a record is a store of fewer objects: twelve records of 236 bytes, then two of 1,596. */
+static bool is_record_end(size_t length)
+{
+    return (length > 0 && length <= 2832 && length % 236 == 0) || length == 4428 || length == 6024;
+}
+
+static void check_cut_stores(void)
+{
+    for (size_t length = 0; length <= STORE; length++) {
+        begin_open();
+        expect(element_check_store(now.store, length) == is_record_end(length),
+            "a store cut to %zu bytes %s", length, is_record_end(length) ? "well formed" : "malformed");
+        expect(element_execute(METADATA, sizeof METADATA, now.store, length, &now.session, now.room, ROOM) == 0,
+            "outcome 0 for a store cut to %zu bytes", length);
+        if (is_record_end(length))
+            expect(left(METADATA_ANSWER, METADATA_SIZE, 1, OLD_ERROR), "the metadata from a store cut to %zu bytes", length);
+        else
+            expect(refused(0x06), "refusal 06 for a store cut to %zu bytes", length);
+    }
+    begin_open();
+    expect(!element_check_store(now.store, STORE + 1), "a store of a byte too many malformed");
+    expect(element_execute(WRITE, sizeof WRITE, now.store, STORE + 1, &now.session, now.room, ROOM) == 0 && refused(0x06),
+        "refusal 06 for a store of a byte too many");
+}
+
+/* Commands above 1,557 bytes, and stores above 16,384 bytes or 32 records. */
+
+static void check_long_commands(void)
+{
+    static uint8_t command[4 + 65536];
+    static const struct { size_t length; uint8_t high, low, number; } longs[] = {
+        {1557, 0x06, 0x11, 0x08}, /* a write of 1,549 bytes */
+        {1558, 0x06, 0x12, 0x04},
+        {4096, 0x0F, 0xFC, 0x04},
+        {65539, 0xFF, 0xFF, 0x04},
+        {65540, 0x00, 0x00, 0x04} /* InLen is the count in 16 bits only */
+    };
+    command[0] = 0x02;
+    command[4] = 0xF1;
+    command[5] = 0xD0;
+    for (size_t i = 0; i < sizeof longs / sizeof longs[0]; i++) {
+        command[2] = longs[i].high;
+        command[3] = longs[i].low;
+        begin_open();
+        expect(execute(command, longs[i].length, ROOM) == 0 && refused(longs[i].number),
+            "refusal %02X for a command of %zu bytes", longs[i].number, longs[i].length);
+    }
+}
+
+static uint8_t large_store[20000];
+
+/* Records of the objects 1, 2, .. with empty data, always granted; returns their size. */
+static size_t make_records(size_t count, size_t maximum)
+{
+    size_t length = 96 + maximum;
+    memset(large_store, 0, sizeof large_store);
+    for (size_t i = 0; i < count; i++) {
+        uint8_t *record = large_store + i * length;
+        record[0] = (uint8_t)length;
+        record[1] = (uint8_t)(length >> 8);
+        record[2] = 0x01;
+        record[4] = (uint8_t)(i + 1);
+        record[6] = (uint8_t)maximum;
+        record[7] = (uint8_t)(maximum >> 8);
+        record[10] = 0x01;
+        record[12] = record[40] = record[68] = 1;
+    }
+    return count * length;
+}
+
+static void check_large_stores(void)
+{
+    static const struct { size_t count, maximum; bool formed; } stores[] = {
+        {32, 416, true},  /* 16,384 bytes */
+        {31, 433, false}, /* 16,399 bytes */
+        {32, 1, true},
+        {33, 1, false},
+        {1, 1500, true},
+        {1, 1501, false},
+        {1, 0, false}
+    };
+    static const uint8_t get[] = {0x01, 0x00, 0x00, 0x06, 0x00, 0x01, 0x00, 0x00, 0x00, 0x00};
+    for (size_t i = 0; i < sizeof stores / sizeof stores[0]; i++) {
+        size_t length = make_records(stores[i].count, stores[i].maximum);
+        begin_open();
+        expect(element_check_store(large_store, length) == stores[i].formed,
+            "a store of %zu bytes %s", length, stores[i].formed ? "well formed" : "malformed");
+        expect(element_execute(get, sizeof get, large_store, length, &now.session, now.room, ROOM) == 0,
+            "outcome 0 on a store of %zu bytes", length);
+        if (stores[i].formed)
+            expect(left(DONE, sizeof DONE, 1, OLD_ERROR), "no data from a store of %zu bytes", length);
+        else
+            expect(refused(0x06), "refusal 06 on a store of %zu bytes", length);
+    }
+}
+
+/* Lists whose sizes do not fit. */
+
+static const uint8_t LIST[] = {
+    0x81, 0x01, 0x00, 0x02, 0x12, 0x34,                        /* no such object, after a flush */
+    0x02, 0x00, 0x00, 0x06, 0xF1, 0xD0, 0x00, 0x00, 0xAB, 0xCD /* a write */
+};
+static uint8_t run_two(const size_t *sizes, size_t sizes_count, const size_t *spaces, size_t spaces_count)
+{
+    return element_run(LIST, sizeof LIST, sizes, sizes_count, now.store, STORE, &now.session, now.room, 2 * ELEMENT_LEAST_ROOM, spaces, spaces_count, now.outcomes, 2);
+}
+
+static void check_list_sizes(void)
+{
+    static const size_t good[] = {6, 10};
+    static const size_t spaces[] = {4, 4};
+    const size_t half = SIZE_MAX / 2 + 1; /* twice this is 0 */
+    const size_t wrong[][2] = {
+        {6, 11}, {7, 10}, {17, 0}, {0, 17}, {half, half}, {SIZE_MAX, 1}, {1, SIZE_MAX}, {6, SIZE_MAX - 5}, {SIZE_MAX - 9, 10},
+        {SIZE_MAX, SIZE_MAX}, {SIZE_MAX, 17}
+    };
+
+    begin_open();
+    for (size_t i = 0; i < sizeof wrong / sizeof wrong[0]; i++) {
+        expect(run_two(wrong[i], 2, spaces, 2) == 2 && unchanged(),
+            "outcome 2 and nothing changed for sizes %zu and %zu", wrong[i][0], wrong[i][1]);
+        expect(run_two(good, 2, wrong[i], 2) == 2 && unchanged(),
+            "outcome 2 and nothing changed for spaces %zu and %zu", wrong[i][0], wrong[i][1]);
+    }
+    expect(run_two(good, 1, spaces, 2) == 2 && unchanged(), "outcome 2 and nothing changed for one size of two");
+    expect(run_two(good, 0, spaces, 2) == 2 && unchanged(), "outcome 2 and nothing changed for no size of two");
+    expect(run_two(good, 2, spaces, 1) == 2 && unchanged(), "outcome 2 and nothing changed for one space of two");
+    expect(run_two(good, 2, spaces, 0) == 2 && unchanged(), "outcome 2 and nothing changed for no space of two");
+
+    expect(run_two(good, 2, spaces, 2) == 0, "outcome 0 for the right sizes");
+    expect(now.outcomes[0] == 0 && now.outcomes[1] == 0, "outcomes 0 and 0 for the right sizes");
+    expect(memcmp(now.room, REFUSED, 4) == 0 && memcmp(now.room + 4, DONE, 4) == 0, "a refusal and a write done for the right sizes");
+    expect(now.session.error == 0x01 && now.session.opened == 1, "the last error 01 for the right sizes");
+    expect(now.store[96] == 0xAB && now.store[97] == 0xCD && now.store[8] == 2, "two bytes in use in F1D0 for the right sizes");
+}
+
+/* Sizes behind the last outcome are not looked at, and bytes behind the last command or room are left. */
+static void check_list_rest(void)
+{
+    static const size_t sizes[] = {6, SIZE_MAX, SIZE_MAX};
+    static const size_t spaces[] = {4, SIZE_MAX};
+    begin_open();
+    expect(element_run(LIST, sizeof LIST, sizes, 3, now.store, STORE, &now.session, now.room, ROOM, spaces, 2, now.outcomes, 1) == 0,
+        "outcome 0 for one command of a longer list");
+    was.outcomes[0] = 0;
+    expect(refused(0x01), "only the first command of a longer list carried out");
+    begin_open();
+    expect(element_run(LIST, sizeof LIST, sizes, 3, now.store, STORE, &now.session, now.room, ROOM, spaces, 2, now.outcomes, 0) == 0
+            && unchanged(),
+        "outcome 0 and nothing changed for no command of a longer list");
+}
+
+/* A list against the same commands one by one. */
+
+typedef struct step {
+    const uint8_t *command;
+    size_t size;
+    size_t space;
+    uint8_t outcome;
+    uint8_t answer[8]; /* by hand */
+    size_t answer_size;
+} step;
+
+static const step STEPS[] = {
+    {METADATA, sizeof METADATA, 7, 0, {0xFF, 0, 0, 0}, 4},             /* 0C: closed */
+    {OPEN, sizeof OPEN, 4, 0, {0, 0, 0, 0}, 4},
+    {READ_ERROR, sizeof READ_ERROR, 3, 1, {0}, 0},                     /* no room: 0C is kept */
+    {READ_ERROR, sizeof READ_ERROR, 6, 0, {0, 0, 0, 1, 0x0C}, 5},
+    {WRITE, sizeof WRITE, 4, 0, {0, 0, 0, 0}, 4},
+    {WRITE_PAST, sizeof WRITE_PAST, 5, 0, {0xFF, 0, 0, 0}, 4},         /* 08 */
+    {NULL, 0, 4, 0, {0xFF, 0, 0, 0}, 4},                               /* 04 */
+    {READ_BACK, sizeof READ_BACK, 5, 0, {0xFF, 0, 0, 0}, 4},           /* 0D */
+    {READ_BACK, sizeof READ_BACK, 7, 0, {0, 0, 0, 2, 0xAB, 0xCD}, 6},
+    {READ_ERROR, sizeof READ_ERROR, 5, 0, {0, 0, 0, 1, 0x0D}, 5},
+    {CLOSE, sizeof CLOSE, 0, 1, {0}, 0},
+    {CLOSE, sizeof CLOSE, 4, 0, {0, 0, 0, 0}, 4}
+};
+enum { COUNT = sizeof STEPS / sizeof STEPS[0] };
+
+/* Commands and rooms end to end. */
+static uint8_t list[256];
+static uint8_t rooms[256];
+static uint8_t single_rooms[256];
+
+static void run_singly(void)
+{
+    size_t at = 0;
+    memset(single_rooms, FILL, sizeof single_rooms);
+    for (size_t i = 0; i < COUNT; i++) {
+        const step *s = &STEPS[i];
+        uint8_t *room = single_rooms + at;
+        expect(element_execute(s->command, s->size, was.store, STORE, &was.session, room, s->space) == s->outcome,
+            "outcome %u of step %zu", s->outcome, i);
+        expect(memcmp(room, s->answer, s->answer_size) == 0, "the response to step %zu", i);
+        for (size_t j = s->answer_size; j < s->space; j++)
+            expect(room[j] == FILL, "byte %zu of the room of step %zu untouched", j, i);
+        at += s->space;
+    }
+}
+
+static void check_list_against_single(void)
+{
+    size_t sizes[COUNT];
+    size_t spaces[COUNT];
+    uint8_t outcomes[COUNT];
+    size_t length = 0;
+    size_t total = 0;
+    for (size_t i = 0; i < COUNT; i++) {
+        sizes[i] = STEPS[i].size;
+        spaces[i] = STEPS[i].space;
+        if (sizes[i] != 0)
+            memcpy(list + length, STEPS[i].command, sizes[i]);
+        length += sizes[i];
+        total += spaces[i];
+    }
+    begin(0, 1, 1, 0);
+    run_singly();
+    memset(rooms, FILL, sizeof rooms);
+    expect(element_run(list, length, sizes, COUNT, now.store, STORE, &now.session, rooms, total, spaces, COUNT, outcomes, COUNT) == 0,
+        "outcome 0 for the steps as a list");
+    for (size_t i = 0; i < COUNT; i++)
+        expect(outcomes[i] == STEPS[i].outcome, "outcome %u of step %zu in the list", STEPS[i].outcome, i);
+    expect(memcmp(rooms, single_rooms, sizeof rooms) == 0, "the same rooms by the list as by single commands");
+    expect(unchanged(), "the same store and session by the list as by single commands");
+    expect(now.session.opened == 0 && now.session.error == 0, "closed with no error after the steps");
+}
+
+static void check_fresh_session(void)
+{
+    element_session session = element_fresh_session();
+    expect(session.opened == 0 && session.lcsg == 1 && session.lcsa == 1 && session.error == 0,
+        "a fresh session closed, LcsG 01, LcsA 01, no error");
+}
+
+int main(void)
+{
+    check_fresh_session();
+    check_null_without_length();
+    check_null_lists();
+    check_null_with_length();
+    check_null_lists_with_length();
+    check_small_rooms();
+    check_large_room();
+    check_opened();
+    check_states();
+    check_errors();
+    check_factory();
+    check_cut_stores();
+    check_long_commands();
+    check_large_stores();
+    check_list_sizes();
+    check_list_rest();
+    check_list_against_single();
+    printf("%u checks hold\n", checks);
+    return 0;
+}
