@@ -1,0 +1,292 @@
+//! Lists of commands of every kind, aimed at a beginning.
+
+use reference::engine::{FLUSH, IDENTIFIER};
+use reference::generator::random::Random;
+
+use crate::stores::{Beginning, Object, ALWAYS, LARGEST};
+
+pub const COMMANDS: usize = 10_000;
+pub const ROOM: usize = LARGEST + 4;
+
+/// Commands with the sizes of their rooms.
+pub type List = Vec<(Vec<u8>, usize)>;
+
+/// The kinds of commands: the rows of the command table, then the refusals by their codes.
+#[derive(Clone, Copy, Debug, PartialEq, Eq)]
+pub enum Kind {
+    Get(usize, usize),
+    GetSession,
+    GetMetadata,
+    Write(u8, usize, usize),
+    WriteState,
+    SetState,
+    SetAll,
+    Open,
+    CloseOpen,
+    NoRoom,
+    BadStore,
+    BadSession,
+    BadFrame,
+    UnknownCmd,
+    Closed,
+    UnknownParam,
+    BadLength,
+    OtherIdentifier,
+    NoObject,
+    Denied,
+    DeniedSession,
+    PastUsed,
+    PastMaximum,
+    BadContent,
+    BadState,
+    SmallRoom,
+}
+
+/// A kind with its name, and the code of the refusal that each of its commands gets.
+pub struct Row {
+    pub name: &'static str,
+    pub kind: Kind,
+    pub code: Option<u8>,
+}
+
+const fn done(name: &'static str, kind: Kind) -> Row {
+    let code = None;
+    Row { name, kind, code }
+}
+
+const fn refusal(name: &'static str, kind: Kind, code: u8) -> Row {
+    let code = Some(code);
+    Row { name, kind, code }
+}
+
+pub const ROWS: [Row; 33] = [
+    done("get data, 0 to 16 bytes", Kind::Get(0, 16)),
+    done("get data, 17 to 140 bytes", Kind::Get(17, 140)),
+    done("get data, 141 to 1,500 bytes", Kind::Get(141, LARGEST)),
+    done("get data, object of the session", Kind::GetSession),
+    done("get metadata", Kind::GetMetadata),
+    done("write, 1 to 16 bytes", Kind::Write(0x00, 1, 16)),
+    done("write, 17 to 140 bytes", Kind::Write(0x00, 17, 140)),
+    done("write, 141 to 1,500 bytes", Kind::Write(0x00, 141, LARGEST)),
+    done("write, life cycle", Kind::WriteState),
+    done("erase and write, 1 to 16 bytes", Kind::Write(0x40, 1, 16)),
+    done(
+        "erase and write, 17 to 140 bytes",
+        Kind::Write(0x40, 17, 140),
+    ),
+    done(
+        "erase and write, 141 to 1,500 bytes",
+        Kind::Write(0x40, 141, LARGEST),
+    ),
+    done("set metadata, LcsO", Kind::SetState),
+    done("set metadata, LcsO and three expressions", Kind::SetAll),
+    done("open", Kind::Open),
+    done("close and open by turns", Kind::CloseOpen),
+    refusal("06, last byte of the store", Kind::BadStore, 0x06),
+    refusal("06, LcsG", Kind::BadSession, 0x06),
+    refusal("04, step 3", Kind::BadFrame, 0x04),
+    refusal("0A", Kind::UnknownCmd, 0x0A),
+    refusal("0C, closed", Kind::Closed, 0x0C),
+    refusal("03", Kind::UnknownParam, 0x03),
+    refusal("04, step 7", Kind::BadLength, 0x04),
+    refusal("05, step 8", Kind::OtherIdentifier, 0x05),
+    refusal("01", Kind::NoObject, 0x01),
+    refusal("07, stored object", Kind::Denied, 0x07),
+    refusal("07, object of the session", Kind::DeniedSession, 0x07),
+    refusal("08, get", Kind::PastUsed, 0x08),
+    refusal("08, write", Kind::PastMaximum, 0x08),
+    refusal("05, last field of metadata", Kind::BadContent, 0x05),
+    refusal("05, life cycle", Kind::BadState, 0x05),
+    refusal("0D", Kind::SmallRoom, 0x0D),
+    done("outcome 1", Kind::NoRoom),
+];
+
+impl Kind {
+    /// The beginning as this kind needs it: malformed store, malformed session, closed.
+    pub fn begin(self, from: &Beginning) -> Beginning {
+        let mut begin = from.clone();
+        match self {
+            Kind::BadStore => {
+                let last = begin.store.len() - 1;
+                begin.store[last] = 1;
+            }
+            Kind::BadSession => begin.session.lcsg = 2,
+            Kind::Closed => begin.session.opened = false,
+            _ => {}
+        }
+        begin
+    }
+
+    /// Whether a mixed list may hold it: its refusal does not rest on the beginning.
+    fn mixes(self) -> bool {
+        !matches!(self, Kind::BadStore | Kind::BadSession | Kind::Closed)
+    }
+}
+
+/// A list of one kind.
+pub fn of_kind(kind: Kind, begin: &Beginning, random: &mut Random) -> List {
+    let mut list = List::new();
+    while list.len() < COMMANDS {
+        push(kind, begin, random, &mut list);
+    }
+    list.truncate(COMMANDS);
+    list
+}
+
+/// A list of all kinds, chosen evenly; after a close come a refused get and an open.
+pub fn mixed(begin: &Beginning, random: &mut Random) -> List {
+    let kinds: Vec<Kind> = ROWS.iter().map(|row| row.kind).collect();
+    let mut list = List::new();
+    while list.len() < COMMANDS {
+        match random.pick(&kinds) {
+            Kind::Closed => {
+                list.push((framed(0x71, 0x00, &[]), ROOM));
+                push(Kind::Get(0, 16), begin, random, &mut list);
+                push(Kind::Open, begin, random, &mut list);
+            }
+            kind if kind.mixes() => push(kind, begin, random, &mut list),
+            _ => {}
+        }
+    }
+    list.truncate(COMMANDS);
+    list
+}
+
+fn framed(cmd: u8, param: u8, in_data: &[u8]) -> Vec<u8> {
+    let mut command = vec![cmd, param];
+    command.extend_from_slice(&(in_data.len() as u16).to_be_bytes());
+    command.extend_from_slice(in_data);
+    command
+}
+
+fn get(number: u16, offset: usize, length: usize) -> Vec<u8> {
+    let numbers = [number, offset as u16, length as u16];
+    framed(0x01, 0x00, &numbers.map(u16::to_be_bytes).concat())
+}
+
+pub fn get_data(object: Object, length: usize, random: &mut Random) -> Vec<u8> {
+    let offset = random.between(0, object.used - length);
+    get(object.number, offset, length)
+}
+
+fn set(param: u8, number: u16, offset: usize, bytes: &[u8]) -> Vec<u8> {
+    let mut in_data = [number, offset as u16].map(u16::to_be_bytes).concat();
+    in_data.extend_from_slice(bytes);
+    framed(0x02, param, &in_data)
+}
+
+pub fn write(param: u8, object: Object, length: usize, random: &mut Random) -> Vec<u8> {
+    let offset = random.between(0, object.maximum - length);
+    set(param, object.number, offset, &random.bytes(length))
+}
+
+fn set_metadata(number: u16, fields: &[(u8, &[u8])]) -> Vec<u8> {
+    let mut content = Vec::new();
+    for (tag, value) in fields {
+        content.extend_from_slice(&[*tag, value.len() as u8]);
+        content.extend_from_slice(value);
+    }
+    let mut in_data = number.to_be_bytes().to_vec();
+    in_data.extend_from_slice(&[0x20, content.len() as u8]);
+    in_data.extend_from_slice(&content);
+    framed(0x02, 0x01, &in_data)
+}
+
+fn set_all(number: u16, expression: &[u8], last: &[u8]) -> Vec<u8> {
+    set_metadata(
+        number,
+        &[
+            (0xC0, &[0x01]),
+            (0xD0, expression),
+            (0xD1, ALWAYS),
+            (0xD3, last),
+        ],
+    )
+}
+
+/// One of the objects that hold as many bytes.
+fn holding(objects: &[Object], length: usize, random: &mut Random) -> Object {
+    let mut able = objects.to_vec();
+    able.retain(|object| object.maximum >= length);
+    random.pick(&able)
+}
+
+/// One of the three objects of the session.
+fn session_number(random: &mut Random) -> u16 {
+    random.pick(&[0xE0C0, 0xF1C0, 0xF1C2])
+}
+
+/// Adds a command of the kind; some have the flush bit.
+fn push(kind: Kind, begin: &Beginning, random: &mut Random, list: &mut List) {
+    let (mut command, room) = make(kind, begin, random, list.len());
+    if kind != Kind::UnknownCmd && kind != Kind::BadFrame && random.below(8) == 0 {
+        command[0] |= FLUSH;
+    }
+    list.push((command, room));
+}
+
+fn make(kind: Kind, begin: &Beginning, random: &mut Random, turn: usize) -> (Vec<u8>, usize) {
+    let writable = random.pick(&begin.written).number;
+    let command = match kind {
+        Kind::Get(low, high) => {
+            let length = random.between(low, high);
+            get_data(holding(&begin.read, length, random), length, random)
+        }
+        Kind::GetSession => get(session_number(random), 0, 1),
+        Kind::GetMetadata => framed(0x01, 0x01, &writable.to_be_bytes()),
+        Kind::Write(param, low, high) => {
+            let length = random.between(low, high);
+            write(
+                param,
+                holding(&begin.written, length, random),
+                length,
+                random,
+            )
+        }
+        Kind::WriteState => set(0x00, random.pick(&[0xE0C0, 0xF1C0]), 0, &[0x01]),
+        Kind::SetState => set_metadata(writable, &[(0xC0, &[0x01])]),
+        Kind::SetAll => set_all(writable, &begin.sent, &begin.sent),
+        Kind::CloseOpen if turn % 2 == 0 => framed(0x71, 0x00, &[]),
+        Kind::Open | Kind::CloseOpen => framed(0x70, 0x00, &IDENTIFIER),
+        Kind::SmallRoom => {
+            let length = random.between(1, 140);
+            let command = get_data(holding(&begin.read, length, random), length, random);
+            return (command, 4 + random.below(length));
+        }
+        Kind::NoRoom => return (framed(0x01, 0x01, &writable.to_be_bytes()), random.below(4)),
+        _ => refused(kind, begin, random),
+    };
+    (command, ROOM)
+}
+
+/// Commands that a step refuses.
+fn refused(kind: Kind, begin: &Beginning, random: &mut Random) -> Vec<u8> {
+    let read = random.pick(&begin.read);
+    let written = random.pick(&begin.written);
+    let locked = begin.locked.number;
+    match kind {
+        Kind::BadFrame => {
+            framed(0x01, 0x01, &read.number.to_be_bytes())[..random.below(6)].to_vec()
+        }
+        Kind::UnknownCmd => framed(random.pick(&[0x00, 0x03, 0x6F, 0x72]), 0x00, &[]),
+        Kind::UnknownParam => framed(random.pick(&[0x01, 0x02, 0x70, 0x71]), 0x02, &[0xF1, 0xD0]),
+        Kind::BadLength => framed(0x01, 0x00, &[0xF1, 0xD0, 0x00]),
+        Kind::OtherIdentifier => framed(0x70, 0x00, b"\xD2\x76\x00\x00\x04GenAuthAppL"),
+        Kind::NoObject => get(random.between(0xF300, 0xF3FF) as u16, 0, 1),
+        Kind::Denied => match random.below(3) {
+            0 => get(locked, 0, 0),
+            1 => set(0x00, locked, 0, &[0x00]),
+            _ => set_metadata(locked, &[(0xC0, &[0x01])]),
+        },
+        Kind::DeniedSession => match random.below(3) {
+            0 => set(0x00, 0xF1C2, 0, &[0x00]),
+            1 => framed(0x01, 0x01, &session_number(random).to_be_bytes()),
+            _ => set_metadata(session_number(random), &[(0xC0, &[0x01])]),
+        },
+        Kind::PastUsed => get(read.number, random.between(0, read.used), read.used + 1),
+        Kind::PastMaximum => set(0x00, written.number, written.maximum, &[0x00]),
+        Kind::BadContent => set_all(written.number, &begin.sent, &[0xE1, 0xFC, 0x04]),
+        Kind::BadState => set(0x00, random.pick(&[0xE0C0, 0xF1C0]), 0, &[0x02]),
+        _ => get_data(read, read.used.min(16), random),
+    }
+}
