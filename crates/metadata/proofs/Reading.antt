@@ -61,7 +61,8 @@ module _ {M : Type 1} (𝓤 : URA M) (H : Heap 𝓤) (A : Atoms 𝓤) (W : Given
 
   -- a number's facts are made anew at each use
   pub with-place : (κ : Lft) (s : RefT (List ℕ)) (n : ℕ) → n < 2 ^ 64 → ent 𝓤 (sem 𝓤 H A (Lent κ s)) (sem 𝓤 H A (Passed κ s n))
-  with-place κ s n fits = qed W (‵ (Lent κ s) ∷ []) ∵ nothing ! $ owned ! usize (Is usize) (uint-makes 𝓤 H A W w64) n _ (refl, fits) $ fjoin ! $ move ! (1 ∷ 0 ∷ []) $ fjoin ! $ done !
+  with-place κ s n fits = qed W (‵ (Lent κ s) ∷ []) ∵ nothing ! $ owned ! usize (Is usize) (uint-makes 𝓤 H A W w64) n _ (refl, fits) $ fjoin ! $ move ! (1 ∷ 0 ∷ []) $
+      fjoin ! $ done !
 
   -- a `&[u8]` is Copy: what it owns is had twice
   pub twice : (κ : Lft) (s : RefT (List ℕ)) → ent 𝓤 (sem 𝓤 H A (Lent κ s)) (⋆ 𝓤 H A (‵ (Lent κ s) ∷ ‵ (Lent κ s) ∷ []))
@@ -76,7 +77,8 @@ module _ {M : Type 1} (𝓤 : URA M) (H : Heap 𝓤) (A : Atoms 𝓤) (W : Given
 
   -- a reader is made of content and a place, and is opened
   pub made : (α : NamedLft) (s : RefT (List ℕ)) (n : ℕ) → n < 2 ^ 64 → ent 𝓤 (sem 𝓤 H A (Lent (α .lft) s)) (sem 𝓤 H A (Held α (record { content = s; at = n })))
-  made α s n fits = qed W (‵ (Lent (α .lft) s) ∷ []) ∵ use1 W (‵ (Passed (α .lft) s n)) (with-place (α .lft) s n fits) $ by ! (own-shut 𝓤 H A W (T.the-type α) (T′.the-laws α) (s, (n, tt)))
+  made α s n fits = qed W (‵ (Lent (α .lft) s) ∷ []) ∵ use1 W (‵ (Passed (α .lft) s n)) (with-place (α .lft) s n fits) $
+      by ! (own-shut 𝓤 H A W (T.the-type α) (T′.the-laws α) (s, (n, tt)))
 
   pub opened : (α : NamedLft) (r : MetadataReader) → ent 𝓤 (sem 𝓤 H A (Held α r)) (sem 𝓤 H A (Lent (α .lft) (r .content)))
   opened α r =
@@ -93,6 +95,8 @@ module _ {M : Type 1} {𝓤 : URA M} {H : Heap 𝓤} {A : Atoms 𝓤} {K : Type 
       ((r : R .Denot) → φ r → Is R r (w ∷ []) → Seq K W (‵ (R .own r (w ∷ [])) ∷ Token κ q ∷ Γ) G) →
       Seq K W (raw (H .⇛ (ex 𝓤 (λ (r : R .Denot). sep 𝓤 (mean 𝓤 H A (Token κ q ⊛ ‵ (R .own r (w ∷ [])))) (Said 𝓤 H A κ s n (φ r))))) ∷ Γ) G
   answers t soaks κ q s n R φ w k =
-      use1 W (later (some (λ (r : R .Denot). (Token κ q ⊛ ‵ (R .own r (w ∷ []))) ⊛ raw (Said 𝓤 H A κ s n (φ r))))) (id⊢ 𝓤 _) $ await t soaks $ pick t (λ r. split t $ move t (1 ∷ []) $
-      use1 W (raw (fact 𝓤 (φ r))) (exE 𝓤 _ (λ ws. snd∗ 𝓤 (sem 𝓤 H A (lasts taken.ended (κ, tt) (s, (n, tt)) ws)) (fact 𝓤 (φ r)))) $ heard t (φ r) (λ e. split t $ move t (1 ∷ []) $
+      use1 W (later (some (λ (r : R .Denot). (Token κ q ⊛ ‵ (R .own r (w ∷ []))) ⊛ raw (Said 𝓤 H A κ s n (φ r))))) (id⊢ 𝓤 _) $ await t soaks $ pick t (λ r. split t $
+      move t (1 ∷ []) $
+      use1 W (raw (fact 𝓤 (φ r))) (exE 𝓤 _ (λ ws. snd∗ 𝓤 (sem 𝓤 H A (lasts taken.ended (κ, tt) (s, (n, tt)) ws)) (fact 𝓤 (φ r)))) $ heard t (φ r) (λ e. split t $
+      move t (1 ∷ []) $
       peeks t R (Is R) (shows 𝓤 H A R) r (w ∷ []) (λ is. k r e is)))

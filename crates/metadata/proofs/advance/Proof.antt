@@ -1,4 +1,5 @@
--- `metadata::advance` meets its contract: a walk of its MIR, by hand. The borrow is opened, the slice and the number are read, `field_at` and `place_after` are called on them, the number that the second returned is stored, and the borrow is closed at the reader with it.
+-- `metadata::advance` meets its contract: a walk of its MIR, by hand. The borrow is opened, the slice and the number are read, `field_at` and
+-- `place_after` are called on them, the number that the second returned is stored, and the borrow is closed at the reader with it.
 -- Of what the reader owns, what content owns is kept from call to call, and the reader is made of it again in the end.
 -- All that the proof knows of the two functions is that each meets its contract.
 use mathlib.Core.Path.{_≡_, refl, ap}
@@ -115,14 +116,16 @@ module _ {M : Type 1} (𝓤 : URA M) (H : Heap 𝓤) (A : Atoms 𝓤) (at-mem : 
           → ent 𝓤 (⋆ 𝓤 H A (‵ (fobs γ (B κ′ .coded .code (h′ m))) ∷ ‵ (fbor κ (Body (mem (B κ′)) b o γ)) ∷ ‵ (flft κ q) ∷ Token κ′ q′ ∷ ‵ (N.the-row .own r (w ∷ [])) ∷ [])) (Post w)
       exits r w m e e′ =
           qed W (‵ (fobs γ (B κ′ .coded .code (h′ m))) ∷ ‵ (fbor κ (Body (mem (B κ′)) b o γ)) ∷ ‵ (flft κ q) ∷ Token κ′ q′ ∷ ‵ (N.the-row .own r (w ∷ [])) ∷ []) ∵
-          suffices ! _ (ends-at 𝓤 H A f.ended stayed (f.clauses 𝓤 H A at-mem run) W (((κ, (κ′, tt)), (q, (q′, tt)), bounds, x, vs), tt) w r (h′ m, tt) (tt, tt)) $ says ! (e, ap h′ e′) $
+          suffices ! _ (ends-at 𝓤 H A f.ended stayed (f.clauses 𝓤 H A at-mem run) W (((κ, (κ′, tt)), (q, (q′, tt)), bounds, x, vs), tt) w r (h′ m, tt) (tt, tt)) $
+          says ! (e, ap h′ e′) $
           move ! (2 ∷ 3 ∷ []) $ join ! $ frame ! $ feqI ! (List Val) (vptr b o ∷ []) (vptr b o ∷ []) refl $ fjoin3 ! $ nothing ! $ move ! (1 ∷ 0 ∷ []) $ fjoin ! $ done !
 
       module _ (C : Calls 𝓤 H) (Λ : Loops 𝓤 H) (fm : FmC 𝓤 H (W .laws) C) (known-field : Triple 𝓤 (C #field-at) FieldAt) (known-place : Triple 𝓤 (C #place-after) PlaceAfter) where
         walk : ent 𝓤 (onEntry 𝓤 H A f.signature (κ, (κ′, tt)) (q, (q′, tt)) x vs) (WpFn 𝓤 H C Λ code.function (vptr b o ∷ []) Post)
         walk =
             qed W ((‵ (flft κ q) ⊛ Token κ′ q′) ∷ ‵ (owns (MutRef (named 0) κ (B κ′) ∷ []) x vs) ∷ []) ∵ enter ! C Λ code.function (vptr b o ∷ []) _ $
-            alloc1 ! (λ l₀. alloc1 ! (λ l₁. alloc1 ! (λ l₂. alloc1 ! (λ l₃. alloc1 ! (λ l₄. alloc1 ! (λ l₅. alloc0 ! $ params1 ! $ pass1 ! (init ! 8 refl (tt, tt)) $ pass0 ! $
+            alloc1 ! (λ l₀. alloc1 ! (λ l₁. alloc1 ! (λ l₂. alloc1 ! (λ l₃. alloc1 ! (λ l₄. alloc1 ! (λ l₅. alloc0 ! $ params1 ! $ pass1 ! (init ! 8 refl (tt, tt)) $
+            pass0 ! $
             -- [_5; …; room for _0; …; the tokens at 12; what the reference owns at 13]: the borrow is opened
             move ! (13 ∷ []) $ fsplit ! $ fsplit3 ! $ drop ! $ move ! (15 ∷ []) $ split ! $ move ! (2 ∷ 3 ∷ 0 ∷ []) $
             opens ! tt (B κ′) {h = h} b o (λ us. spelt ! (B κ′) (Is (B κ′)) (shows 𝓤 H A (B κ′)) (LL.vals (T.the-type (α κ′)) (L κ′)) (LL.tells (T.the-type (α κ′)) (L κ′)) fullShare h us b o $
@@ -144,7 +147,8 @@ module _ {M : Type 1} (𝓤 : URA M) (H : Heap 𝓤) (A : Atoms 𝓤) (at-mem : 
             calls-at ! fm PlaceAfter known-place to (and-then ! (load ! (from ! (stop !)) (look ! 14 refl)) (and-then ! (load ! (from ! (stop !)) (look ! 12 refl)) (no-more !))) (λ w′.
             answers ! tt κ′ q′ (h .content) (h .at) usize Behind w′ (λ m e′ is′.
             -- [the number; the token; what content owns; the answer; the reader's cell; the open borrow; obs; auth; true; _5 at 9; …]
-            land ! (from ! (stop !)) (init ! 9 refl (uint-lawful 𝓤 H A W w64 .typed m _ is′ .0)) $ rewrite ! 9 (λ (u : Val). ‵ (fat fullShare (tyInt w64) l₅ 0 u)) (ap only (is′ .0)) refl $
+            land ! (from ! (stop !)) (init ! 9 refl (uint-lawful 𝓤 H A W w64 .typed m _ is′ .0)) $
+            rewrite ! 9 (λ (u : Val). ‵ (fat fullShare (tyInt w64) l₅ 0 u)) (ap only (is′ .0)) refl $
             assigns ! (of-opd ! (load ! (from ! (stop !)) (look ! 9 refl))) (from ! (hop ! (look ! 17 refl) (fld ! refl (stop !)))) (store-in ! 4 (sub ! 1 refl (whole !)) (tt, record { fits = is′ .1 })) $
             assigns ! (of-opd ! (load ! (from ! (stop !)) (look ! 11 refl))) (from ! (stop !)) (init ! 19 refl (EL.lawful N.the-type N′.the-laws 𝓤 H A W tt .typed r _ is .0)) $
             -- the borrow is closed at the reader with the number
@@ -153,10 +157,12 @@ module _ {M : Type 1} (𝓤 : URA M) (H : Heap 𝓤) (A : Atoms 𝓤) (at-mem : 
             move ! (0 ∷ 1 ∷ 5 ∷ 6 ∷ 7 ∷ []) $ closes ! tt (B κ′) (h′ m) (T′.lowered (h′ m) ∷ []) b o $
             -- [obs; the borrow; its token; the number; 'a's token; the answer; true; _5 at 7; …; _0 at 17; …]
             returns ! (look ! 17 refl) $ forget ! 7 refl $ forget ! 9 refl $ forget ! 11 refl $ forget ! 13 refl $ forget ! 15 refl $ forget ! 17 refl $
-            move ! (17 ∷ 18 ∷ []) $ free1 ! $ move ! (15 ∷ 16 ∷ []) $ free1 ! $ move ! (13 ∷ 14 ∷ []) $ free1 ! $ move ! (11 ∷ 12 ∷ []) $ free1 ! $ move ! (9 ∷ 10 ∷ []) $ free1 ! $ move ! (7 ∷ 8 ∷ []) $ free1 ! $ free0 ! $
+            move ! (17 ∷ 18 ∷ []) $ free1 ! $ move ! (15 ∷ 16 ∷ []) $ free1 ! $ move ! (13 ∷ 14 ∷ []) $ free1 ! $ move ! (11 ∷ 12 ∷ []) $ free1 ! $ move ! (9 ∷ 10 ∷ []) $
+            free1 ! $ move ! (7 ∷ 8 ∷ []) $ free1 ! $ free0 ! $
             keep ! (0 ∷ 1 ∷ 2 ∷ 4 ∷ 5 ∷ []) $ by ! (exits r w m e e′)))))))))))))
 
-    meets : (𝓣 : Tables 𝓤 H) → Triple 𝓤 (𝓣 .C #field-at) FieldAt → Triple 𝓤 (𝓣 .C #place-after) PlaceAfter → Meets 𝓤 H A f.signature (WpFn 𝓤 H (𝓣 .C) (𝓣 .Λ) code.function) (f.spec 𝓤 H A at-mem run)
+    meets : (𝓣 : Tables 𝓤 H) → Triple 𝓤 (𝓣 .C #field-at) FieldAt → Triple 𝓤 (𝓣 .C #place-after) PlaceAfter
+        → Meets 𝓤 H A f.signature (WpFn 𝓤 H (𝓣 .C) (𝓣 .Λ) code.function) (f.spec 𝓤 H A at-mem run)
     meets 𝓣 known-field known-place =
         walk-meets 𝓤 H A f.ended stayed W (goes-ref 𝓤 H A W 2 0 tt behind, tt) (f.clauses 𝓤 H A at-mem run) (WpFn 𝓤 H (𝓣 .C) (𝓣 .Λ) code.function) (WpFn-mono 𝓤 H (W .laws) 𝓣 code.function)
         (walked 𝓤 H A f.ended stayed (f.clauses 𝓤 H A at-mem run) (WpFn 𝓤 H (𝓣 .C) (𝓣 .Λ) code.function) (λ κs. (ptr-vals, tt)) (λ κs. (mut-tells (named 0) (κs .0) (B (κs .1 .0)), tt))

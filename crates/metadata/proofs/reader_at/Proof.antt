@@ -50,7 +50,8 @@ module _ {M : Type 1} (𝓤 : URA M) (H : Heap 𝓤) (A : Atoms 𝓤) (W : Given
     exits : ent 𝓤 Entry (Post (T′.lowered reader))
     exits =
         qed W (Token κ q ∷ ‵ (Passed κ s n) ∷ []) ∵
-        suffices ! _ (ends-at 𝓤 H A f.ended stays (f.clauses 𝓤 H A mem run) W (((κ, tt), (q, tt), tt, (s, (n, tt)), passed s n), tt) (T′.lowered reader) reader (tt, (tt, tt)) (tt, (tt, tt))) $ says ! (refl, refl) $
+        suffices ! _ (ends-at 𝓤 H A f.ended stays (f.clauses 𝓤 H A mem run) W (((κ, tt), (q, tt), tt, (s, (n, tt)), passed s n), tt) (T′.lowered reader) reader (tt, (tt, tt)) (tt, (tt, tt))) $
+        says ! (refl, refl) $
         frame ! $ fsplit ! $ use1 W (‵ (Lent κ s) ⊛ ‵ (Lent κ s)) (twice 𝓤 H A W κ s) $ split ! $ move ! (0 ∷ 2 ∷ []) $ fjoin ! $ frame ! $
         -- [what content owns]
         by ! (made 𝓤 H A W (namedLft 1 0 tt (κ, tt)) s n n-fits)
@@ -59,10 +60,12 @@ module _ {M : Type 1} (𝓤 : URA M) (H : Heap 𝓤) (A : Atoms 𝓤) (W : Given
     walk C Λ is =
         let typed = shr-slice-lawful 𝓤 H A W (named 0) κ u8 .typed s (lent s ∷ []) is .0 in
         qed W (raw Entry ∷ []) ∵ enter ! C Λ code.function (lent s ∷ vint w64 n ∷ []) _ $
-        alloc1 ! (λ l₀. alloc1 ! (λ l₁. alloc1 ! (λ l₂. alloc0 ! $ params1 ! $ pass1 ! (init ! 2 refl typed) $ pass1 ! (init ! 0 refl (tt, record { fits = n-fits })) $ pass0 ! $
+        alloc1 ! (λ l₀. alloc1 ! (λ l₁. alloc1 ! (λ l₂. alloc0 ! $ params1 ! $ pass1 ! (init ! 2 refl typed) $ pass1 ! (init ! 0 refl (tt, record { fits = n-fits })) $
+        pass0 ! $
         -- [_2; …; _1; …; room for _0; …; what is had on entry]
         assigns ! (agg ! (and-then ! (load ! (from ! (stop !)) (look ! 2 refl)) (and-then ! (load ! (from ! (stop !)) (look ! 0 refl)) (no-more !)))) (from ! (stop !)) (init ! 4 refl (tt, (typed .1, (record { fits = n-fits }, tt)))) $
-        returns ! (look ! 4 refl) $ forget ! 0 refl $ forget ! 2 refl $ forget ! 4 refl $ move ! (4 ∷ 5 ∷ []) $ free1 ! $ move ! (2 ∷ 3 ∷ []) $ free1 ! $ free1 ! $ free0 ! $ by ! exits)))
+        returns ! (look ! 4 refl) $ forget ! 0 refl $ forget ! 2 refl $ forget ! 4 refl $ move ! (4 ∷ 5 ∷ []) $ free1 ! $ move ! (2 ∷ 3 ∷ []) $ free1 ! $ free1 ! $
+        free0 ! $ by ! exits)))
 
   meets : (𝓣 : Tables 𝓤 H) → Meets 𝓤 H A f.signature (WpFn 𝓤 H (𝓣 .C) (𝓣 .Λ) code.function) (f.spec 𝓤 H A mem run)
   meets 𝓣 =
