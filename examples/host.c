@@ -1,7 +1,7 @@
 /*
  * A host of the secure element in C99: a list of commands on standard input, a line for each on standard output, as the program `bench` does.
  *
- *   gcc -std=c99 -O2 -Iinclude examples/host.c target/staticlib/libfirmware.a -o host
+ *   gcc -std=c99 -O2 -Iinclude examples/host.c target/staticlib/libfirmware.a -o target/host
  *
  * A list is commands, each led by its length in 2 bytes, most significant first. All memory is the host's own and static.
  */

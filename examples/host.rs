@@ -1,7 +1,7 @@
 //! A host of the secure element in Rust, over the safe interface in element.rs.
 //!
-//!   rustc --edition 2021 -O --crate-type rlib -L native=target/staticlib examples/element.rs -o libelement.rlib
-//!   rustc --edition 2021 -O --extern element=libelement.rlib examples/host.rs -o host
+//!   rustc --edition 2021 -O --crate-type rlib -L native=target/staticlib examples/element.rs -o target/libelement.rlib
+//!   rustc --edition 2021 -O --extern element=target/libelement.rlib examples/host.rs -o target/host_rs
 //!
 //! usage: host          a list of commands on standard input, a line for each, as the program `bench` prints them
 //!        host demo     a fare's story by typed calls; exits 1 at the first answer that is not the expected one
