@@ -171,14 +171,14 @@ requested-alike : (c : List ℕ) (o : Option Object) (n : ℕ) (s : Session) →
 unfolding requested
 requested-alike c o n s = operation-alike (row c) c (or-else o no-object) n s
 
-nine-alike : (c : List ℕ) (room : ℕ) (o : Option Object) (n : ℕ) (s : Session) → from-nine c room o (with-error n s) ≡ from-nine c room o s
+pub nine-alike : (c : List ℕ) (room : ℕ) (o : Option Object) (n : ℕ) (s : Session) → from-nine c room o (with-error n s) ≡ from-nine c room o s
 unfolding from-nine late-of
 nine-alike c room o n s =
     let a = requested-alike c o n s in
     λ i. no-such-object c o refused Rattle.rules.specs.declared.Refusal.the-variants.InvalidObject or
     late (a .granted i) (a .within i) (a .allowed i) (length (a .answer i)) room
 
-early-alike : (sound : Bool) (c : List ℕ) (n : ℕ) (s : Session) → early sound c (with-error n s) ≡ early sound c s
+pub early-alike : (sound : Bool) (c : List ℕ) (n : ℕ) (s : Session) → early sound c (with-error n s) ≡ early sound c s
 unfolding early unsound unusable with-error
 early-alike sound c n s = refl
 

@@ -10,6 +10,7 @@ pub mod Rows
 pub mod Demand2
 pub mod Puts
 pub mod Demand3
+pub mod Again
 pub mod SendBack
 pub mod Factory
 pub mod Bench
