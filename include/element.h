@@ -4,10 +4,10 @@
  * Link libfirmware.a (`make library`). The library takes no memory of its own, keeps nothing between calls, and calls nothing but memset. Calls
  * on different buffers may run at the same time.
  *
- * What a caller owes: each pointer is good for the length that follows it, for the whole call, and no two buffers of one call overlap,
- * except that `const` ones may. A pointer whose length is 0 may be NULL; a session may not. Everything else is handled: no byte of a
- * command, a store, a session or a room, and no length, leads to anything but the answers below. Where a pointer might be NULL, call the
- * `_checked` functions at the end of this file.
+ * What a caller owes: each pointer is good for the length that follows it, for the whole call; nothing else writes what is lent meanwhile;
+ * and no two buffers of one call overlap, except that `const` ones may. A pointer whose length is 0 may be NULL; a session may not.
+ * Everything else is handled: no byte of a command, a store, a session or a room, and no length, leads to anything but the answers below.
+ * Where a pointer might be NULL, call the `_checked` functions at the end of this file.
  *
  * Numbers in commands and responses stand most significant byte first.
  */
