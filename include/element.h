@@ -32,10 +32,13 @@ enum {
 /* The first byte of a response. */
 enum {
     ELEMENT_STATUS_DONE = 0x00,
-    ELEMENT_STATUS_REFUSED = 0xFF /* the response is FF 00 00 00; the number of the refusal is in the last error */
+    ELEMENT_STATUS_REFUSED = 0xFF /* the response is FF 00 00 00; the last error is the refusal's number, or a higher one that stood there */
 };
 
-/* Why a command is refused: the numbers that the last error takes. The highest is kept until it is read or flushed. */
+/*
+ * Why a command is refused. The last error takes the number if it is higher than the one that stands there, and keeps it until it is read or flushed:
+ * after a refused command with ELEMENT_FLUSH it is that command's own number.
+ */
 enum {
     ELEMENT_NO_ERROR = 0x00,
     ELEMENT_INVALID_OBJECT = 0x01,     /* no such object */
@@ -95,7 +98,8 @@ enum {
 /*
  * What the element keeps between commands. The host keeps it, beside the store.
  * Every value of every byte has a meaning. opened: 0 is closed, any other value is open; its value changes only when the
- * application's state does, to 1 or 0. lcsg and lcsa: a value that is no life cycle state gets every command refused with 06. error: the last error.
+ * application's state does, to 1 or 0. lcsg and lcsa: with a value that is no life cycle state, every command that has room for a status is refused
+ * with 06. error: the last error.
  */
 typedef struct element_session {
     uint8_t opened;
@@ -123,7 +127,7 @@ uint8_t element_execute(const uint8_t *command, size_t command_len, uint8_t *sto
  */
 uint8_t element_run(const uint8_t *commands, size_t commands_len, const size_t *sizes, size_t sizes_count, uint8_t *store, size_t store_len, element_session *session, uint8_t *rooms, size_t rooms_len, const size_t *spaces, size_t spaces_count, uint8_t *outcomes, size_t outcomes_count);
 
-/* Whether the store is well formed. Every command on a store that is not is refused with 06. */
+/* Whether the store is well formed. On one that is not, every command that has room for a status is refused with 06. */
 bool element_check_store(const uint8_t *store, size_t store_len);
 
 /*

@@ -1,3 +1,5 @@
+-- The tables of computed cases, which rest on the rules alone; then the laws.
+pub mod Bench
 pub mod Tests
 pub mod Expressions
 pub mod Inverse
@@ -10,7 +12,6 @@ pub mod Rows
 pub mod Demand2
 pub mod Puts
 pub mod Demand3
-pub mod Again
+pub mod Resent
 pub mod SendBack
 pub mod Factory
-pub mod Bench

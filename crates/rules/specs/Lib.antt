@@ -19,8 +19,10 @@ pub mod Refusals
 pub mod Step
 -- Lists of commands
 pub mod Run
--- Bench sheet
 pub mod Program
-pub mod Bench
 -- The demands, in their own words
 pub mod Demand
+-- Bench sheet, and a case for each sentence
+pub mod Cases
+pub mod Bench
+pub mod Sentences
