@@ -3,7 +3,7 @@
 use Prim.Native.Nat.{ℕ, _+_, _≤_}
 use mathlib.Core.Bool.{Bool, true, false, not, _&&_, false≢true}
 use mathlib.Core.List.{List, []}
-use mathlib.Core.Option.{none, some}
+use mathlib.Core.Option.{Option, none, some}
 use mathlib.Core.Path.{_≡_, refl, sym, ap, _∙_}
 use native.Mathlib.Omega.{arith}
 use borrow.Author.Tests.{leb-true, le-leb, not-true, not-false}
@@ -27,10 +27,10 @@ use Rattle.rules.specs.Step.{After, stored, declined, performed, answere
 use Rattle.rules.specs.Demand.{is-done, Ready, well-formed, writes, content-allowed, changed, MayWrite, WritesExactly, MayRead, ReadsExactly}
 use Rattle.rules.proofs.Tests.{and-left, and-right, and-both}
 use Rattle.rules.proofs.Inverse.{unpack-pack, pack-unpack}
-use Rattle.rules.proofs.Verdicts.{EarlyPassed, LatePassed, verdict-passed, verdict-accepts}
+use Rattle.rules.proofs.Verdicts.{EarlyPassed, LatePassed, Passed, verdict-passed, verdict-accepts}
 use Rattle.rules.proofs.Keeps.{stored-kept}
 use Rattle.rules.proofs.Rows.{row-cmd, gets-or-sets, known-row, row-known, row-opens, named-in-store, stored-outside, state-outside, not-error-object, flush-keeps}
-use Rattle.rules.proofs.Demand1.{step-judged, declined-not-done, performed-done}
+use Rattle.rules.proofs.Demand1.{step-judged, done-judged, performed-done}
 
 -- writes are among the gets and sets
 write-row : (r : Row) → writes r ≡ true → gets-or-sets r ≡ true
@@ -70,6 +70,12 @@ operation-writes OpenApplication c o s w h = absurd (false≢true w)
 operation-writes CloseApplication c o s w h = absurd (false≢true w)
 operation-writes Unknown c o s w h = absurd (false≢true w)
 
+-- an accepted command is well formed
+pub passed-well-formed : (c : List ℕ) (room : ℕ) (store : Option (List Object)) (s : Session) → Passed c room store s → well-formed c ≡ true
+unfolding well-formed wrong-length
+passed-well-formed c room store s p =
+    and-both (not (ill-sized c)) (length-right (row c) (in-length c)) (rw (p .early .step-3)) (not-false _ (p .early .step-7))
+
 -- one command on a ready element -------------------------------------------------------------------------------------------
 
 module _ (c room store : List ℕ) (s : Session) (os : List Object) (ready : Ready room store s os) where
@@ -93,11 +99,7 @@ module _ (c room store : List ℕ) (s : Session) (os : List Object) (ready : Rea
   accepted-step e = step-answered ∙ ap (λ v. answered v c room store os now) e
 
   pub done-accepted : is-done (step c room store s) ≡ true → judgment ≡ Accepted
-  done-accepted h = go judgment refl
-    where
-      go : (v : Verdict) → judgment ≡ v → v ≡ Accepted
-      go (Refused r) e = absurd (false≢true (sym (declined-not-done r room store now) ∙ ap is-done (sym (refused-step r e)) ∙ h))
-      go Accepted e = refl
+  done-accepted h = rw (ready .store-sound) at (done-judged c room store s h .1)
 
   pub not-done-kept : is-done (step c room store s) ≡ false → step c room store s .store ≡ store
   not-done-kept h = go judgment refl
@@ -159,10 +161,7 @@ module _ (c room store : List ℕ) (s : Session) (os : List Object) (ready : Rea
         (record { early = early-ready w; step-9 = finds-object; late = rw requested-is l })
 
     was-well-formed : judgment ≡ Accepted → well-formed c ≡ true
-    unfolding well-formed wrong-length
-    was-well-formed e =
-        let p = verdict-passed c (length room) (some os) now e in
-        and-both (not (ill-sized c)) (length-right (row c) (in-length c)) (rw (p .early .step-3)) (not-false _ (p .early .step-7))
+    was-well-formed e = passed-well-formed c (length room) (some os) now (verdict-passed c (length room) (some os) now e)
 
     late-by : judgment ≡ Accepted → LatePassed asked (length room)
     late-by e = rw requested-is at (verdict-passed c (length room) (some os) now e .late)

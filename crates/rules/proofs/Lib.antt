@@ -8,6 +8,7 @@ pub mod Keeps
 pub mod Demand1
 pub mod Rows
 pub mod Demand2
+pub mod Shown
 pub mod Puts
 pub mod Demand3
 pub mod Again
