@@ -14,4 +14,5 @@ pub mod Demand3
 pub mod Again
 pub mod SendBack
 pub mod Factory
+pub mod Witnesses
 pub mod Bench

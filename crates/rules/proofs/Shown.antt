@@ -41,17 +41,15 @@ done-ready c room store s g h =
     let p = verdict-passed c (length room) (unpack store) (flushed c s) accepted .early in
     let f = flush-keeps c s in
     let k = known-row (row c) g in
-    let sound = or-parts (not (is-some (unpack store)) || not (is-state (flushed c s .lcsg))) _ (p .step-2) in
-    let both = or-parts (not (is-some (unpack store))) _ (sound .0) in
-    let usable = or-parts (eqb (flushed c s .lcsa) 0x0F) _ (p .step-5) in
-    record {
-      room-to-answer = fits;
-      store-sound = some-else (unpack store) [] (not-false _ (both .0));
-      lcsg-sound = rw (f .lcsg) at (not-false (is-state (flushed c s .lcsg)) (both .1));
-      lcsa-sound = rw (f .lcsa) at (not-false (is-state (flushed c s .lcsa)) (sound .1));
-      not-terminated = rw (f .lcsa) at (usable .0);
-      is-open = sym (f .opened) ∙ and-not _ _ (usable .1) (row-opens c (row-cmd (row c)) (k .0) refl ∙ k .1);
-    }
+    let (sound, lcsa) = or-parts (not (is-some (unpack store)) || not (is-state (flushed c s .lcsg))) _ (p .step-2) in
+    let (packed, lcsg) = or-parts (not (is-some (unpack store))) _ sound in
+    let (ended, closed) = or-parts (eqb (flushed c s .lcsa) 0x0F) _ (p .step-5) in
+    let store-sound : unpack store ≡ some (or-else (unpack store) []) = some-else (unpack store) [] (not-false _ packed) in
+    let lcsg-sound : is-state (s .lcsg) ≡ true = rw (f .lcsg) at (not-false (is-state (flushed c s .lcsg)) lcsg) in
+    let lcsa-sound : is-state (s .lcsa) ≡ true = rw (f .lcsa) at (not-false (is-state (flushed c s .lcsa)) lcsa) in
+    let not-terminated : eqb (s .lcsa) 0x0F ≡ false = rw (f .lcsa) at ended in
+    let is-open : s .opened ≡ true = sym (f .opened) ∙ and-not _ _ closed (row-opens c (row-cmd (row c)) (k .0) refl ∙ k .1) in
+    search
 
 -- the object that a command names --------------------------------------------------------------------------------------------------
 

@@ -66,6 +66,7 @@ pub record Ready (room store : List ℕ) (s : Session) (os : List Object) : Type
   pub store-sound : unpack store ≡ some os
   pub lcsg-sound : is-state (s .lcsg) ≡ true
   pub lcsa-sound : is-state (s .lcsa) ≡ true
+  -- usable: LcsA is not 0F, and it is open
   pub not-terminated : eqb (s .lcsa) 0x0F ≡ false
   pub is-open : s .opened ≡ true
 
