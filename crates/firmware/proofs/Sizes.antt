@@ -10,10 +10,11 @@ use lib.Seq.{drop-drop, getD-drop}
 use borrow.Author.Tests.{lt-ltb, le-leb, lt-leb}
 use lib.Dec.{ltb, leb}
 use Rattle.rules.specs.declared.Session.{Session}
-use Rattle.runs.specs.Lists.{Returned, lent, returned, by-rules}
+use Rattle.runs.specs.Lists.{Returned, lent, returned}
+use Rattle.runs.specs.Demand.{IsRun, library-run}
 use Rattle.firmware.specs.declared.HostSession.{HostSession}
 use Rattle.firmware.specs.Host.{session-of, bytes-of}
-use Rattle.firmware.specs.Lists.{all-fit, laid-well, list-left, list-in-bytes}
+use Rattle.firmware.specs.Lists.{all-fit, laid-well, list-left, list-in-bytes, HostRuns}
 
 not-true : (t : Bool) → not t ≡ true → t ≡ false
 not-true true e = sym e
@@ -56,13 +57,13 @@ module _ (was : HostSession) (commands sizes rooms spaces outcomes store : List 
   unfolding laid-well
   well s = both ∙ rw (ex, ey) refl
 
-  pub not-laid : (s : Session) → not whole ≡ true → list-left 2 rooms outcomes store was ≡ list-in-bytes was (lent commands sizes rooms spaces outcomes store s)
+  pub not-laid : (s : Session) → not whole ≡ true → HostRuns (lent commands sizes rooms spaces outcomes store s) was (list-left 2 rooms outcomes store was)
   unfolding list-in-bytes
   not-laid s n = rw (sym (well s) ∙ not-true whole n) refl
 
   pub ran : (s after : Session) (b : HostSession) (rooms′ outcomes′ store′ : List ℕ) → not whole ≡ false → s ≡ session-of was
-      → returned rooms′ outcomes′ store′ after ≡ by-rules (lent commands sizes rooms spaces outcomes store s) → b ≡ bytes-of was after
-      → list-left 0 rooms′ outcomes′ store′ b ≡ list-in-bytes was (lent commands sizes rooms spaces outcomes store (session-of was))
+      → IsRun (library-run (lent commands sizes rooms spaces outcomes store s) (returned rooms′ outcomes′ store′ after)) → b ≡ bytes-of was after
+      → HostRuns (lent commands sizes rooms spaces outcomes store (session-of was)) was (list-left 0 rooms′ outcomes′ store′ b)
   unfolding list-in-bytes
   ran s after b rooms′ outcomes′ store′ n e f g =
       rw (sym (well (session-of was)) ∙ not-false whole n, g, ← e)
