@@ -23,7 +23,7 @@ use Rattle.rules.specs.Metadata.{field, fields-bytes, led-by-20, read-fi
 use Rattle.rules.specs.Operation.{with-content, put-at}
 use Rattle.rules.specs.Refusals.{ill-sized}
 use Rattle.rules.specs.Step.{flushed, step}
-use Rattle.rules.specs.Run.{Turn, reply, left}
+use Rattle.rules.specs.Run.{Turn, Kept, reply, left}
 use Rattle.rules.specs.Demand.{is-done, Ready, well-formed, writes, content-allowed, changed, MayWrite, WritesExactly, MayRead, session-byte, MayReadByte, Shown}
 use Rattle.rules.specs.Demand.{reads-or-writes, object-of, Names, TwoLists}
 use Rattle.rules.proofs.Factory.{factory-sound}
@@ -119,13 +119,22 @@ turn c = record { command = c; room = room }
 unfoldable pub on-F1D0 : List Turn
 on-F1D0 = turn P3 ∷ turn P4 ∷ []
 
--- P6: a byte written at the end of F1E0; and read back
+-- P6: a byte written at the end of F1E0; and that byte read back
+unfoldable pub P6 : List ℕ
+P6 = hex "02 00 00 05 F1 E0 05 DB AA"
+
+unfoldable pub P6-back : List ℕ
+P6-back = hex "01 00 00 06 F1 E0 05 DB 00 01"
+
 unfoldable pub on-F1E0 : List Turn
-on-F1E0 = turn (hex "02 00 00 05 F1 E0 05 DB AA") ∷ turn (hex "01 00 00 06 F1 E0 05 DB 00 01") ∷ []
+on-F1E0 = turn P6 ∷ turn P6-back ∷ []
 
 unfoldable pub in-turn : List Turn
-in-turn =
-    turn P3 ∷ turn (hex "02 00 00 05 F1 E0 05 DB AA") ∷ turn P4 ∷ turn (hex "01 00 00 06 F1 E0 05 DB 00 01") ∷ []
+in-turn = turn P3 ∷ turn P6 ∷ turn P4 ∷ turn P6-back ∷ []
+
+-- the factory store and the opened session
+unfoldable pub begun : Kept
+begun = record { store = factory-store; session = opened }
 
 pub taken-in-turn : Mix on-F1D0 on-F1E0 in-turn
 unfolding on-F1D0 on-F1E0 in-turn
@@ -141,16 +150,16 @@ one-named (t ∷ ts) k n a (inl e) = let f = a .0 in cc
 one-named (t ∷ ts) k n a (inr h) = one-named ts k n (a .1) h
 
 none-common : (n : ℕ) → Names on-F1D0 n → Names on-F1E0 n → ⊥
-unfolding computed P3 P4 on-F1D0 on-F1E0
+unfolding computed P3 P4 P6 P6-back on-F1D0 on-F1E0
 none-common n p q =
     let a = one-named on-F1D0 0xF1D0 n (refl, (refl, tt)) p in
     let b = one-named on-F1E0 0xF1E0 n (refl, (refl, tt)) q in
     omega arith
 
 pub two-lists : TwoLists on-F1D0 on-F1E0
-unfolding computed P3 P4 on-F1D0 on-F1E0
+unfolding computed P3 P4 P6 P6-back on-F1D0 on-F1E0
 two-lists = search (outside, none-common) depth 8
 
 -- so demand 3 holds of them
-pub mixed-lists : Mixed reply left on-F1D0 on-F1E0 in-turn taken-in-turn (record { store = factory-store; session = opened })
-mixed-lists = lists-mix taken-in-turn (record { store = factory-store; session = opened }) two-lists
+pub mixed-lists : Mixed reply left on-F1D0 on-F1E0 in-turn taken-in-turn begun
+mixed-lists = lists-mix taken-in-turn begun two-lists
