@@ -24,11 +24,11 @@ use Rattle.rules.specs.Operation.{with-content, put-at}
 use Rattle.rules.specs.Refusals.{ill-sized}
 use Rattle.rules.specs.Step.{flushed, step}
 use Rattle.rules.specs.Run.{Turn, Kept, reply, left}
-use Rattle.rules.specs.Demand.{is-done, Ready, well-formed, writes, content-allowed, changed, MayWrite, WritesExactly, MayRead, session-byte, MayReadByte, Shown}
+use Rattle.rules.specs.Demand.{is-done, Ready, well-formed, writes, content-allowed, changed, MayWrite, WritesExactly, MayRead, session-byte, MayReadByte, after-byte, Shown}
 use Rattle.rules.specs.Demand.{reads-or-writes, object-of, Names, TwoLists}
 use Rattle.rules.proofs.Factory.{factory-sound}
 use Rattle.rules.proofs.Demand2.{write-exactly-when, read-exactly-when}
-use Rattle.rules.proofs.Shown.{read-only-when}
+use Rattle.rules.proofs.Shown.{read-only-when, byte-read-when}
 use Rattle.rules.proofs.Demand3.{lists-mix}
 
 -- the application opened on the factory store, with a room of 64 bytes EE
@@ -107,9 +107,24 @@ unfolding computed P4 is-done done-response put-in-front
 P4-shown = read-only-when P4 room written opened refl (ap is-done read-back)
 
 -- P9: the last error read, where it is 07
-pub may-read-byte : MayReadByte (hex "01 00 00 06 F1 C2 00 00 00 01") (length room) (with-error 0x07 opened) 0x07
-unfolding computed
+unfoldable pub P9 : List ℕ
+P9 = hex "01 00 00 06 F1 C2 00 00 00 01"
+
+unfoldable pub erred : Session
+erred = with-error 0x07 opened
+
+pub erred-ready : Ready room factory-store erred factory-objects
+unfolding computed erred
+erred-ready = search (factory-sound, arith)
+
+pub may-read-byte : MayReadByte P9 (length room) erred 0x07
+unfolding computed P9 erred
 may-read-byte = search arith
+
+pub error-read : step P9 room factory-store erred ≡
+    record { outcome = 0; room = put-in-front (done-response (0x07 ∷ [])) room; store = factory-store; session = opened }
+unfolding computed P9 erred after-byte
+error-read = byte-read-when P9 room factory-store erred factory-objects 0x07 erred-ready refl may-read-byte
 
 -- two lists, and a mix of them that takes from each in turn ---------------------------------------------------------------------------
 

@@ -160,6 +160,16 @@ pub record MayReadByte (c : List ℕ) (room : ℕ) (s : Session) (byte : ℕ) : 
 unfoldable pub after-byte : List ℕ → Session → Session
 after-byte c s = if eqb (object-number c) 0xF1C2 && leb 1 (asked-length c) then with-error 0 s else s
 
+-- what stands after a data read that shows, of this byte, what is asked for
+abbrev pub byte-shown : List ℕ → ℕ → (room store : List ℕ) → Session → After
+byte-shown c byte room store s =
+    record {
+      outcome = 0;
+      room = put-in-front (done-response (take (asked-length c) (drop (offset c) (byte ∷ [])))) room;
+      store = store;
+      session = after-byte c s;
+    }
+
 -- what a data read that is done shows, with nothing assumed of store and session: they are sound, the application usable, the command
 -- well formed; and either the object is stored and its read condition holds, or it is one of the session's three
 pub data Shown (c room store : List ℕ) (s : Session) (a : After) : Type 0 where
@@ -173,14 +183,7 @@ pub data Shown (c room store : List ℕ) (s : Session) (a : After) : Type 0 wher
       } →
       Shown c room store s a
   of-session : (os : List Object) (byte : ℕ) → Ready room store s os → MayReadByte c (length room) (flushed c s) byte →
-      a ≡
-      record {
-        outcome = 0;
-        room = put-in-front (done-response (take (asked-length c) (drop (offset c) (byte ∷ [])))) room;
-        store = store;
-        session = after-byte c (flushed c s);
-      } →
-      Shown c room store s a
+      a ≡ byte-shown c byte room store (flushed c s) → Shown c room store s a
 
 -- the send-back case: an object's metadata read back, without C4 and C5, and the command that sends it in -------------------
 
