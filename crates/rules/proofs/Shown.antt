@@ -50,7 +50,7 @@ done-ready c room store s g h =
     let lcsa-sound : is-state (s .lcsa) ≡ true = rw (f .lcsa) at (not-false (is-state (flushed c s .lcsa)) lcsa) in
     let not-terminated : eqb (s .lcsa) 0x0F ≡ false = rw (f .lcsa) at ended in
     let is-open : s .opened ≡ true = sym (f .opened) ∙ and-not _ _ closed (row-opens c (row-cmd (row c)) (k .0) refl ∙ k .1) in
-    search
+    search arith
 
 -- the object that a command names --------------------------------------------------------------------------------------------------
 
