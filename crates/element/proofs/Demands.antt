@@ -11,14 +11,15 @@ use Rattle.rules.specs.declared.Row.the-variants.{GetData}
 use Rattle.rules.specs.Command.{row, object-number}
 use Rattle.rules.specs.Object.{Object}
 use Rattle.rules.specs.Layout.{find}
-use Rattle.rules.specs.Step.{After, step}
-use Rattle.rules.specs.Demand.{is-refused, SomeRefusal, Answered, Ready, writes, WritesExactly, ReadsExactly}
+use Rattle.rules.specs.Step.{After, flushed}
+use Rattle.rules.specs.Demand.{is-done, is-refused, SomeRefusal, Answered, Ready, writes, WritesExactly, ReadsExactly, MayReadByte, byte-shown, Shown}
 use Rattle.rules.proofs.Demand1.{every-command-answered, no-room-changes-nothing, refusal-changes-last-error-only}
 use Rattle.rules.proofs.Demand2.{write-exactly-when, read-exactly-when}
+use Rattle.rules.proofs.Shown.{read-only-when, byte-read-when}
 use Rattle.element.specs.declared.Answer.{Answer}
-use Rattle.element.specs.Executed.{executed}
+use Rattle.element.specs.Executed.{executed, Executes}
 
-module _ (c room store : List ℕ) (s : Session) (r : Answer) (room′ store′ : List ℕ) (call : executed r room′ store′ ≡ step c room store s) where
+module _ (c room store : List ℕ) (s : Session) (r : Answer) (room′ store′ : List ℕ) (call : Executes c room store s r room′ store′) where
   -- demand 1: whatever bytes come in, there is an answer: no room for a status and nothing changed, refused, or done
   pub execute-answers : Answered c room store s (executed r room′ store′)
   execute-answers = subst (λ (a : After). Answered c room store s a) (sym call) (every-command-answered c room store s)
@@ -31,6 +32,15 @@ module _ (c room store : List ℕ) (s : Session) (r : Answer) (room′ store′ 
   -- demand 1: with no room for even a status, nothing changes at all
   pub execute-no-room : length room < 4 → executed r room′ store′ ≡ record { outcome = 1; room = room; store = store; session = s }
   execute-no-room h = call ∙ no-room-changes-nothing c room store s h
+
+  -- demand 2: a data read that is done shows exactly the stored bytes, the read condition holding, with nothing assumed of store and session
+  pub execute-shows : row c ≡ GetData → is-done (executed r room′ store′) ≡ true → Shown c room store s (executed r room′ store′)
+  execute-shows g = subst (λ (a : After). is-done a ≡ true → Shown c room store s a) (sym call) (read-only-when c room store s g)
+
+  -- demand 2: the byte of an object of the session is shown whenever it may be
+  pub execute-shows-byte : (os : List Object) (byte : ℕ) → Ready room store s os → row c ≡ GetData → MayReadByte c (length room) (flushed c s) byte →
+      executed r room′ store′ ≡ byte-shown c byte room store (flushed c s)
+  execute-shows-byte os byte ready g m = call ∙ byte-read-when c room store s os byte ready g m
 
   module _ (os : List Object) (o : Object) (ready : Ready room store s os) (finds : find (object-number c) os ≡ some o) where
     -- demand 2: a write to a stored object makes its change exactly when it may

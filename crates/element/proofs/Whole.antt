@@ -37,7 +37,7 @@ use Rattle.judge.specs.declared.Target.the-variants.{InSession, InStore, Nothin
 use Rattle.judge.specs.Targets.{kept, target-object, Placed}
 use Rattle.judge.proofs.Judging.{at-nothing}
 use Rattle.element.specs.declared.Answer.{Answer}
-use Rattle.element.specs.Executed.{executed, stored-at, opens}
+use Rattle.element.specs.Executed.{executed, Executes, stored-at, opens}
 use Rattle.element.proofs.Doing.{record-session, no-set, not-open, not-close, not-unknown}
 
 refused-not-accepted : {r : Refusal} {v : Verdict} → Refused r ≡ v → v ≡ Accepted → ⊥
@@ -191,18 +191,18 @@ early-there b c s u a = rw u a
 -- `execute` ---------------------------------------------------------------------------------------------------------------------------
 
 module _ (c room b : List ℕ) (s : Session) where
-  pub too-small : length room < 4 → executed (record { outcome = 1; session = s }) room b ≡ step c room b s
+  pub too-small : length room < 4 → Executes c room b s (record { outcome = 1; session = s }) room b
   unfolding step unanswered
   too-small h = rw (lt-ltb (length room) 4 h)
 
   module _ (four : 4 ≤ length room) (f : Session) (ef : f ≡ flushed c s) where
-    pub step-by : (r : Answer) (xs b′ : List ℕ) → executed r xs b′ ≡ judged c room b (unpack b) f → executed r xs b′ ≡ step c room b s
+    pub step-by : (r : Answer) (xs b′ : List ℕ) → executed r xs b′ ≡ judged c room b (unpack b) f → Executes c room b s r xs b′
     unfolding step
     step-by r xs b′ e = e ∙ ap (judged c room b (unpack b)) ef ∙ sym (rw (le-ltb (length room) 4 four))
 
     module _ (t : Bool) (et : t ≡ is-some (unpack b)) (v : Verdict) (ev : v ≡ early t c f) where
       pub early-refused : (k : Refusal) (r : Answer) (xs : List ℕ) → v ≡ Refused k → r .outcome ≡ 0 → r .session ≡ raised (code k) f →
-          xs ≡ put-in-front refused-response room → executed r xs b ≡ step c room b s
+          xs ≡ put-in-front refused-response room → Executes c room b s r xs b
       unfolding declined
       early-refused k r xs q eo es ex = step-by r xs b ((λ i. record { outcome = eo i; room = ex i; store = b; session = es i }) ∙ is-declined)
         where

@@ -19,12 +19,12 @@ ghost use Rattle.rules.specs.Layout.{unpack};
 ghost use Rattle.rules.specs.Session.{with-error, with-opened, with-state};
 ghost use Rattle.rules.specs.Operation.{operation, named, requested};
 ghost use Rattle.rules.specs.Refusals.{early, late-of, from-nine};
-ghost use Rattle.rules.specs.Step.{raised, performed, judged, step};
+ghost use Rattle.rules.specs.Step.{raised, performed, judged};
 ghost use Rattle.rules.proofs.Rows.{gets-or-sets};
 ghost use Rattle.store.specs.Places.{object-at, Stored};
 ghost use Rattle.command.specs.InForm.{InForm};
 ghost use Rattle.judge.specs.Targets.{kept, target-object, Placed};
-ghost use Rattle.element.specs.Executed.{executed, stored-at, opens};
+ghost use Rattle.element.specs.Executed.{executed, Executes, stored-at, opens};
 
 // The outcome number and the session after a command.
 pub struct Answer {
@@ -303,7 +303,7 @@ fn carry_out(command: &[u8], store: &mut [u8], session: Session, room: &mut [u8]
 
 // One command: the answer, and the room and the store as they are left, are the rules'.
 pub fn execute(command: &[u8], store: &mut [u8], session: Session, room: &mut [u8]) -> Answer
-    ensures { λ r. ⌜ executed r (now (room .exit)) (now (store .exit)) ≡ step (now (command .entry)) (now (room .entry)) (now (store .entry)) session ⌝ }
+    ensures { λ r. ⌜ Executes (now (command .entry)) (now (room .entry)) (now (store .entry)) session r (now (room .exit)) (now (store .exit)) ⌝ }
 {
     if room.len() < 4 {
         return Answer {
@@ -327,7 +327,7 @@ pub fn execute_in_place(
     session: &mut Session,
     room: &mut [u8],
 ) -> u8
-    ensures { λ r. ⌜ executed (record { outcome = r; session = now (session .exit) }) (now (room .exit)) (now (store .exit)) ≡ step (now (command .entry)) (now (room .entry)) (now (store .entry)) (now (session .entry)) ⌝ }
+    ensures { λ r. ⌜ Executes (now (command .entry)) (now (room .entry)) (now (store .entry)) (now (session .entry)) (record { outcome = r; session = now (session .exit) }) (now (room .exit)) (now (store .exit)) ⌝ }
 {
     let was = *session;
     let answer = execute(command, store, was, room);

@@ -10,9 +10,9 @@ use Rattle.rules.specs.declared.Session.{Session}
 use Rattle.rules.specs.Factory.{fresh-session}
 use Rattle.rules.specs.Step.{step}
 use Rattle.element.specs.declared.Answer.{Answer}
-use Rattle.element.specs.Executed.{executed}
+use Rattle.element.specs.Executed.{Executes}
 use Rattle.firmware.specs.declared.HostSession.{HostSession}
-use Rattle.firmware.specs.Host.{session-of, opened-byte, bytes-of, left, in-bytes}
+use Rattle.firmware.specs.Host.{session-of, opened-byte, bytes-of, left, in-bytes, HostExecutes}
 
 -- `opened_byte`
 module _ (was : ℕ) (o : Bool) where
@@ -39,7 +39,7 @@ made-fresh was b s e f = f ∙ ap (bytes-of was) e
 
 -- `execute_for_host`
 pub answered : (was b : HostSession) (s : Session) (r : Answer) (command room store room′ store′ : List ℕ) → s ≡ session-of was → b ≡ bytes-of was (r .session)
-    → executed r room′ store′ ≡ step command room store s → left (r .outcome) room′ store′ b ≡ in-bytes was (step command room store (session-of was))
+    → Executes command room store s r room′ store′ → HostExecutes command room store was (left (r .outcome) room′ store′ b)
 answered was b s r command room store room′ store′ e f g =
     rw f (ap (in-bytes was) (g ∙ ap (step command room store) e))
 

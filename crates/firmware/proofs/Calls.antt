@@ -6,11 +6,12 @@ use mathlib.Core.Bool.{true}
 use mathlib.Core.List.{List}
 use Rattle.rules.specs.declared.Session.{Session}
 use Rattle.rules.specs.Step.{After, step}
-use Rattle.element.specs.Executed.{executed}
+use Rattle.element.specs.Executed.{Executes}
 use Rattle.runs.specs.Lists.{Lent, Returned, returned, by-rules}
+use Rattle.runs.specs.Demand.{IsRun, library-run}
 use Rattle.firmware.specs.declared.HostSession.{HostSession}
-use Rattle.firmware.specs.Host.{session-of, Left, left, in-bytes}
-use Rattle.firmware.specs.Lists.{ListLeft, laid-well, list-left, list-in-bytes}
+use Rattle.firmware.specs.Host.{session-of, Left, left, HostExecutes}
+use Rattle.firmware.specs.Lists.{ListLeft, laid-well, list-left, list-in-bytes, HostRuns}
 use Rattle.firmware.proofs.Bytes.{told-again}
 
 abbrev after : Left → After
@@ -18,8 +19,8 @@ after l = record { outcome = l .outcome; room = l .room; store = l .store; sessi
 
 -- a call of `element_execute` meets the contract of `execute`
 pub call-by-rules : (command room store : List ℕ) (b : HostSession) (outcome : ℕ) (room′ store′ : List ℕ) (b′ : HostSession)
-    → left outcome room′ store′ b′ ≡ in-bytes b (step command room store (session-of b))
-    → executed (record { outcome = outcome; session = session-of b′ }) room′ store′ ≡ step command room store (session-of b)
+    → HostExecutes command room store b (left outcome room′ store′ b′)
+    → Executes command room store (session-of b) (record { outcome = outcome; session = session-of b′ }) room′ store′
 call-by-rules command room store b outcome room′ store′ b′ e =
     let a : After = step command room store (session-of b) in
     ap after e ∙ ap (λ (s : Session). record { outcome = a .outcome; room = a .room; store = a .store; session = s }) (told-again b (a .session))
@@ -29,8 +30,8 @@ given-back l = returned (l .rooms) (l .outcomes) (l .store) (session-of (l .sess
 
 -- a call of `element_run` on a list that is laid out well answers 0 and meets the contract of `run`
 pub run-by-rules : (l : Lent) (b : HostSession) (outcome : ℕ) (rooms′ outcomes′ store′ : List ℕ) (b′ : HostSession) → laid-well l ≡ true
-    → list-left outcome rooms′ outcomes′ store′ b′ ≡ list-in-bytes b l
-    → (outcome ≡ 0) × (returned rooms′ outcomes′ store′ (session-of b′) ≡ by-rules l)
+    → HostRuns l b (list-left outcome rooms′ outcomes′ store′ b′)
+    → (outcome ≡ 0) × IsRun (library-run l (returned rooms′ outcomes′ store′ (session-of b′)))
 unfolding list-in-bytes
 run-by-rules l b outcome rooms′ outcomes′ store′ b′ well e =
     let a : Returned = by-rules l in

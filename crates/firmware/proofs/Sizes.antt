@@ -2,18 +2,20 @@
 use Prim.Native.Nat.{ℕ, suc, _+_, _-_, _≤_, _<_}
 use mathlib.Core.Path.{_≡_, refl, sym, ap, _∙_}
 use mathlib.Core.Bool.{Bool, true, false, _&&_, not}
-use mathlib.Core.List.{List}
+use mathlib.Core.List.{List, [], _∷_, _++_, map, flatMap}
 use native.Mathlib.Nat.{add-zero}
 use native.Mathlib.Omega.{arith}
-use lib.ListN.{length, getD, drop, length-drop}
+use lib.ListN.{length, getD, drop, length-drop, length-append, length-replicate}
 use lib.Seq.{drop-drop, getD-drop}
 use borrow.Author.Tests.{lt-ltb, le-leb, lt-leb}
 use lib.Dec.{ltb, leb}
 use Rattle.rules.specs.declared.Session.{Session}
-use Rattle.runs.specs.Lists.{Returned, lent, returned, by-rules}
+use Rattle.rules.specs.Run.{Turn, Kept}
+use Rattle.runs.specs.Lists.{Returned, lent, returned, laid-out}
+use Rattle.runs.specs.Demand.{IsRun, library-run}
 use Rattle.firmware.specs.declared.HostSession.{HostSession}
 use Rattle.firmware.specs.Host.{session-of, bytes-of}
-use Rattle.firmware.specs.Lists.{all-fit, laid-well, list-left, list-in-bytes}
+use Rattle.firmware.specs.Lists.{all-fit, laid-well, list-left, list-in-bytes, HostRuns}
 
 not-true : (t : Bool) → not t ≡ true → t ≡ false
 not-true true e = sym e
@@ -56,14 +58,28 @@ module _ (was : HostSession) (commands sizes rooms spaces outcomes store : List 
   unfolding laid-well
   well s = both ∙ rw (ex, ey) refl
 
-  pub not-laid : (s : Session) → not whole ≡ true → list-left 2 rooms outcomes store was ≡ list-in-bytes was (lent commands sizes rooms spaces outcomes store s)
+  pub not-laid : (s : Session) → not whole ≡ true → HostRuns (lent commands sizes rooms spaces outcomes store s) was (list-left 2 rooms outcomes store was)
   unfolding list-in-bytes
   not-laid s n = rw (sym (well s) ∙ not-true whole n) refl
 
   pub ran : (s after : Session) (b : HostSession) (rooms′ outcomes′ store′ : List ℕ) → not whole ≡ false → s ≡ session-of was
-      → returned rooms′ outcomes′ store′ after ≡ by-rules (lent commands sizes rooms spaces outcomes store s) → b ≡ bytes-of was after
-      → list-left 0 rooms′ outcomes′ store′ b ≡ list-in-bytes was (lent commands sizes rooms spaces outcomes store (session-of was))
+      → IsRun (library-run (lent commands sizes rooms spaces outcomes store s) (returned rooms′ outcomes′ store′ after)) → b ≡ bytes-of was after
+      → HostRuns (lent commands sizes rooms spaces outcomes store (session-of was)) was (list-left 0 rooms′ outcomes′ store′ b)
   unfolding list-in-bytes
   ran s after b rooms′ outcomes′ store′ n e f g =
       rw (sym (well (session-of was)) ∙ not-false whole n, g, ← e)
       (ap (λ (a : Returned). list-left 0 (a .rooms) (a .outcomes) (a .store) (bytes-of was (a .session))) f)
+
+-- every list of commands can be laid out so that its sizes fit
+sizes-fit : (f : Turn → List ℕ) (ts : List Turn) → all-fit (length ts) (map (λ t. length (f t)) ts) (length (flatMap f ts)) ≡ true
+unfolding all-fit flatMap
+sizes-fit f [] = refl
+sizes-fit f (t ∷ ts) =
+    let l : length (f t ++ flatMap f ts) ≡ length (f t) + length (flatMap f ts) = length-append (f t) (flatMap f ts) in
+    let rest : length (f t ++ flatMap f ts) - length (f t) ≡ length (flatMap f ts) = omega arith in
+    rw (lt-ltb 0 (length (map (λ (t : Turn). length (f t)) (t ∷ ts))) (omega arith), le-leb (length (f t)) (length (f t ++ flatMap f ts)) (omega arith), rest)
+    (sizes-fit f ts)
+
+pub laid-out-well : (ts : List Turn) (k : Kept) → laid-well (laid-out ts k) ≡ true
+unfolding laid-well
+laid-out-well ts k = rw (length-replicate, sizes-fit (λ t. t .command) ts, sizes-fit (λ t. t .room) ts)

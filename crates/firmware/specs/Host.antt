@@ -2,9 +2,10 @@
 use Prim.Native.Nat.{ℕ, max}
 use mathlib.Core.Bool.{Bool, true, false, not}
 use mathlib.Core.List.{List}
+use mathlib.Core.Path.{_≡_}
 use lib.Dec.{eqb}
 use Rattle.rules.specs.declared.Session.{Session}
-use Rattle.rules.specs.Step.{After}
+use Rattle.rules.specs.Step.{After, step}
 use Rattle.firmware.specs.declared.HostSession.{HostSession}
 
 -- the session that four bytes tell: opened is 0 for closed, any other byte for open
@@ -33,3 +34,7 @@ left outcome room store session = record { outcome = outcome; room = room; store
 -- what stands after a command by the rules, with the session in bytes
 abbrev pub in-bytes : HostSession → After → Left
 in-bytes was a = left (a .outcome) (a .room) (a .store) (bytes-of was (a .session))
+
+-- what a call of `element_execute` leaves, by the rules
+abbrev pub HostExecutes : (c room store : List ℕ) (was : HostSession) → Left → Type 0
+HostExecutes c room store was l = l ≡ in-bytes was (step c room store (session-of was))

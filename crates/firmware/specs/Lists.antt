@@ -2,6 +2,7 @@
 use Prim.Native.Nat.{ℕ, zero, suc, _-_}
 use mathlib.Core.Bool.{Bool, true, _&&_}
 use mathlib.Core.List.{List}
+use mathlib.Core.Path.{_≡_}
 use lib.Dec.{ltb, leb}
 use lib.ListN.{length, getD, drop}
 use Rattle.rules.specs.Basic.{if_then_else_}
@@ -35,3 +36,7 @@ list-in-bytes was l =
     if laid-well l
     then (let a = by-rules l in list-left 0 (a .rooms) (a .outcomes) (a .store) (bytes-of was (a .session)))
     else list-left 2 (l .rooms) (l .outcomes) (l .store) was
+
+-- what a call of `element_run` leaves, by the rules; l has the session that the bytes tell
+abbrev pub HostRuns : (l : Lent) (was : HostSession) → ListLeft → Type 0
+HostRuns l was r = r ≡ list-in-bytes was l

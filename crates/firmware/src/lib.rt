@@ -4,10 +4,9 @@ ghost use mathlib.Core.Path.{_≡_};
 ghost use Rattle.rules.specs.Basic.{is-some};
 ghost use Rattle.rules.specs.Layout.{unpack};
 ghost use Rattle.rules.specs.Factory.{fresh-session, factory-outcome, factory-made};
-ghost use Rattle.rules.specs.Step.{step};
 ghost use Rattle.runs.specs.Lists.{lent};
-ghost use Rattle.firmware.specs.Host.{session-of, opened-byte, bytes-of, left, in-bytes};
-ghost use Rattle.firmware.specs.Lists.{all-fit, list-left, list-in-bytes};
+ghost use Rattle.firmware.specs.Host.{session-of, opened-byte, bytes-of, left, HostExecutes};
+ghost use Rattle.firmware.specs.Lists.{all-fit, list-left, HostRuns};
 
 // The session as a host in C keeps it. opened is 0 for closed; any other byte is open.
 #[repr(C)]
@@ -65,8 +64,8 @@ fn execute_for_host(
     session: HostSession,
     room: &mut [u8],
 ) -> HostAnswer
-    ensures { λ r. ⌜ left (r .outcome) (now (room .exit)) (now (store .exit)) (r .session)
-        ≡ in-bytes session (step (now (command .entry)) (now (room .entry)) (now (store .entry)) (session-of session)) ⌝ }
+    ensures { λ r. ⌜ HostExecutes (now (command .entry)) (now (room .entry)) (now (store .entry)) session
+        (left (r .outcome) (now (room .exit)) (now (store .exit)) (r .session)) ⌝ }
 {
     let answer = element::execute(command, store, session_of(session), room);
     HostAnswer {
@@ -83,8 +82,8 @@ pub extern "C" fn element_execute(
     session: &mut HostSession,
     room: &mut [u8],
 ) -> u8
-    ensures { λ r. ⌜ left r (now (room .exit)) (now (store .exit)) (now (session .exit))
-        ≡ in-bytes (now (session .entry)) (step (now (command .entry)) (now (room .entry)) (now (store .entry)) (session-of (now (session .entry)))) ⌝ }
+    ensures { λ r. ⌜ HostExecutes (now (command .entry)) (now (room .entry)) (now (store .entry)) (now (session .entry))
+        (left r (now (room .exit)) (now (store .exit)) (now (session .exit))) ⌝ }
 {
     let was = *session;
     let answer = execute_for_host(command, store, was, room);
@@ -122,8 +121,8 @@ fn run_for_host(
     spaces: &[usize],
     outcomes: &mut [u8],
 ) -> HostAnswer
-    ensures { λ r. ⌜ list-left (r .outcome) (now (rooms .exit)) (now (outcomes .exit)) (now (store .exit)) (r .session)
-        ≡ list-in-bytes session (lent (now (commands .entry)) (now (sizes .entry)) (now (rooms .entry)) (now (spaces .entry)) (now (outcomes .entry)) (now (store .entry)) (session-of session)) ⌝ }
+    ensures { λ r. ⌜ HostRuns (lent (now (commands .entry)) (now (sizes .entry)) (now (rooms .entry)) (now (spaces .entry)) (now (outcomes .entry)) (now (store .entry)) (session-of session)) session
+        (list-left (r .outcome) (now (rooms .exit)) (now (outcomes .exit)) (now (store .exit)) (r .session)) ⌝ }
 {
     let count = outcomes.len();
     let whole = primitives::both(
@@ -162,8 +161,8 @@ pub extern "C" fn element_run(
     spaces: &[usize],
     outcomes: &mut [u8],
 ) -> u8
-    ensures { λ r. ⌜ list-left r (now (rooms .exit)) (now (outcomes .exit)) (now (store .exit)) (now (session .exit))
-        ≡ list-in-bytes (now (session .entry)) (lent (now (commands .entry)) (now (sizes .entry)) (now (rooms .entry)) (now (spaces .entry)) (now (outcomes .entry)) (now (store .entry)) (session-of (now (session .entry)))) ⌝ }
+    ensures { λ r. ⌜ HostRuns (lent (now (commands .entry)) (now (sizes .entry)) (now (rooms .entry)) (now (spaces .entry)) (now (outcomes .entry)) (now (store .entry)) (session-of (now (session .entry)))) (now (session .entry))
+        (list-left r (now (rooms .exit)) (now (outcomes .exit)) (now (store .exit)) (now (session .exit))) ⌝ }
 {
     let was = *session;
     let answer = run_for_host(commands, sizes, store, was, rooms, spaces, outcomes);

@@ -85,6 +85,27 @@ pub no-room-changes-nothing : (c room store : List ℕ) (s : Session) → length
 unfolding step unanswered
 no-room-changes-nothing c room store s h = rw (lt-ltb (length room) 4 h)
 
+unanswered-not-done : (room store : List ℕ) (s : Session) → is-done (record { outcome = 1; room = room; store = store; session = s }) ≡ false
+unfolding is-done
+unanswered-not-done room store s = refl
+
+-- what is done had room for a status and was accepted
+pub done-judged : (c room store : List ℕ) (s : Session) → is-done (step c room store s) ≡ true →
+    (4 ≤ length room) × (verdict c (length room) (unpack store) (flushed c s) ≡ Accepted)
+unfolding judged answered
+done-judged c room store s h = by-room (ltb (length room) 4) refl
+  where
+    by : (v : Verdict) → is-done (answered v c room store (or-else (unpack store) []) (flushed c s)) ≡ true → v ≡ Accepted
+    by (Refused r) d = absurd (false≢true (sym (declined-not-done r room store (flushed c s)) ∙ d))
+    by Accepted d = refl
+
+    by-room : (t : Bool) → ltb (length room) 4 ≡ t → (4 ≤ length room) × (verdict c (length room) (unpack store) (flushed c s) ≡ Accepted)
+    by-room true e =
+        absurd (false≢true (sym (unanswered-not-done room store s) ∙ ap is-done (sym (no-room-changes-nothing c room store s (ltb-true (length room) 4 e))) ∙ h))
+    by-room false e =
+        let fits = ltb-false (length room) 4 e in
+        (fits, by (verdict c (length room) (unpack store) (flushed c s)) (ap is-done (sym (step-judged c room store s fits)) ∙ h))
+
 unanswered-not-refused : (room store : List ℕ) (s : Session) → is-refused (record { outcome = 1; room = room; store = store; session = s }) ≡ true → ⊥
 unfolding is-refused
 unanswered-not-refused room store s h = false≢true h

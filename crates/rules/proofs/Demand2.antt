@@ -29,8 +29,8 @@ use Rattle.rules.proofs.Tests.{and-left, and-right, and-both}
 use Rattle.rules.proofs.Inverse.{unpack-pack, pack-unpack}
 use Rattle.rules.proofs.Verdicts.{EarlyPassed, LatePassed, verdict-passed, verdict-accepts}
 use Rattle.rules.proofs.Keeps.{stored-kept}
-use Rattle.rules.proofs.Rows.{row-cmd, gets-or-sets, known-row, row-known, row-opens, named-in-store, stored-outside, state-outside, not-error-object, flush-keeps}
-use Rattle.rules.proofs.Demand1.{step-judged, declined-not-done, performed-done}
+use Rattle.rules.proofs.Rows.{row-cmd, gets-or-sets, get-row, known-row, row-known, row-opens, named-in-store, stored-outside, state-outside, not-error-object, flush-keeps}
+use Rattle.rules.proofs.Demand1.{step-judged, done-judged, performed-done}
 
 -- writes are among the gets and sets
 write-row : (r : Row) → writes r ≡ true → gets-or-sets r ≡ true
@@ -93,11 +93,7 @@ module _ (c room store : List ℕ) (s : Session) (os : List Object) (ready : Rea
   accepted-step e = step-answered ∙ ap (λ v. answered v c room store os now) e
 
   pub done-accepted : is-done (step c room store s) ≡ true → judgment ≡ Accepted
-  done-accepted h = go judgment refl
-    where
-      go : (v : Verdict) → judgment ≡ v → v ≡ Accepted
-      go (Refused r) e = absurd (false≢true (sym (declined-not-done r room store now) ∙ ap is-done (sym (refused-step r e)) ∙ h))
-      go Accepted e = refl
+  done-accepted h = rw (ready .store-sound) at (done-judged c room store s h .1)
 
   pub not-done-kept : is-done (step c room store s) ≡ false → step c room store s .store ≡ store
   not-done-kept h = go judgment refl
@@ -113,11 +109,8 @@ module _ (c room store : List ℕ) (s : Session) (os : List Object) (ready : Rea
   allowed-objects : objects-allowed os ≡ true
   allowed-objects = pack-unpack store os (ready .store-sound) .1
 
-  -- at a stored object
-  module _ (o : Object) (finds : find (object-number c) os ≡ some o) (gs : gets-or-sets (row c) ≡ true) where
-    abbrev asked : Operation
-    asked = operation (row c) c o now
-
+  -- a stored object is the one that is named
+  module _ (o : Object) (finds : find (object-number c) os ≡ some o) where
     not-in-session : in-session (o .number) ≡ false
     not-in-session = stored-outside (object-number c) os o allowed-objects finds .0
 
@@ -125,9 +118,14 @@ module _ (c room store : List ℕ) (s : Session) (os : List Object) (ready : Rea
     named-is =
         named-in-store c os now (ap in-session (sym (stored-outside (object-number c) os o allowed-objects finds .1)) ∙ not-in-session) ∙ finds
 
-    requested-is : requested c (named c os now) now ≡ asked
+  -- at the object that is named, of the session or of the store
+  module _ (o : Object) (names-it : named c os now ≡ some o) (gs : gets-or-sets (row c) ≡ true) where
+    abbrev asked : Operation
+    asked = operation (row c) c o now
+
+    pub requested-is : requested c (named c os now) now ≡ asked
     unfolding requested
-    requested-is = ap (λ m. operation (row c) c (or-else m no-object) now) named-is
+    requested-is = ap (λ m. operation (row c) c (or-else m no-object) now) names-it
 
     -- the steps 2 to 9 refuse it only where it is not well formed
     early-ready : well-formed c ≡ true → EarlyPassed true c now
@@ -147,27 +145,27 @@ module _ (c room store : List ℕ) (s : Session) (os : List Object) (ready : Rea
 
     finds-object : no-such-object c (named c os now) ≡ false
     unfolding no-such-object
-    finds-object = rw named-is (and-false (names-object c))
+    finds-object = rw names-it (and-false (names-object c))
       where
         and-false : (b : Bool) → b && false ≡ false
         and-false true = refl
         and-false false = refl
 
-    accepted-by : well-formed c ≡ true → LatePassed asked (length room) → judgment ≡ Accepted
+    pub accepted-by : well-formed c ≡ true → LatePassed asked (length room) → judgment ≡ Accepted
     accepted-by w l =
         verdict-accepts c (length room) (some os) now
         (record { early = early-ready w; step-9 = finds-object; late = rw requested-is l })
 
-    was-well-formed : judgment ≡ Accepted → well-formed c ≡ true
+    pub was-well-formed : judgment ≡ Accepted → well-formed c ≡ true
     unfolding well-formed wrong-length
     was-well-formed e =
         let p = verdict-passed c (length room) (some os) now e in
         and-both (not (ill-sized c)) (length-right (row c) (in-length c)) (rw (p .early .step-3)) (not-false _ (p .early .step-7))
 
-    late-by : judgment ≡ Accepted → LatePassed asked (length room)
+    pub late-by : judgment ≡ Accepted → LatePassed asked (length room)
     late-by e = rw requested-is at (verdict-passed c (length room) (some os) now e .late)
 
-    performed-by : judgment ≡ Accepted → step c room store s ≡ performed asked room store os
+    pub performed-by : judgment ≡ Accepted → step c room store s ≡ performed asked room store os
     performed-by e = accepted-step e ∙ ap (λ p. performed p room store os) requested-is
 
 -- writes -----------------------------------------------------------------------------------------------------------------
@@ -177,8 +175,11 @@ module _ (c room store : List ℕ) (s : Session) (os : List Object) (o : Object)
   gs : gets-or-sets (row c) ≡ true
   gs = write-row (row c) w
 
+  written-named : named c os (flushed c s) ≡ some o
+  written-named = named-is c room store s os ready o finds
+
   asks : Writing (row c) c o (flushed c s)
-  asks = operation-writes (row c) c o (flushed c s) w (not-in-session c room store s os ready o finds gs)
+  asks = operation-writes (row c) c o (flushed c s) w (not-in-session c room store s os ready o finds)
 
   judged-so : Type 0
   judged-so = verdict c (length room) (some os) (flushed c s) ≡ Accepted
@@ -187,7 +188,7 @@ module _ (c room store : List ℕ) (s : Session) (os : List Object) (o : Object)
   may-accepted m =
       let p = operation (row c) c o (flushed c s) in
       let both : p .within && p .allowed ≡ true = asks .content ∙ m .content-allowed-and-fits in
-      accepted-by c room store s os ready o finds gs (m .command-well-formed)
+      accepted-by c room store s os ready o written-named gs (m .command-well-formed)
       (record {
         granted = asks .asks ∙ flush-keeps c s .same-holds (o .lcso) (o .change) ∙ m .change-condition-holds;
         within = and-left (p .within) (p .allowed) both;
@@ -197,9 +198,9 @@ module _ (c room store : List ℕ) (s : Session) (os : List Object) (o : Object)
 
   accepted-may : verdict c (length room) (some os) (flushed c s) ≡ Accepted → MayWrite c s o
   accepted-may e =
-      let l = late-by c room store s os ready o finds gs e in
+      let l = late-by c room store s os ready o written-named gs e in
       record {
-        command-well-formed = was-well-formed c room store s os ready o finds gs e;
+        command-well-formed = was-well-formed c room store s os ready o written-named gs e;
         change-condition-holds = sym (flush-keeps c s .same-holds (o .lcso) (o .change)) ∙ sym (asks .asks) ∙ l .granted;
         content-allowed-and-fits = sym (asks .content) ∙ and-both _ _ (l .within) (l .allowed);
       }
@@ -209,14 +210,14 @@ module _ (c room store : List ℕ) (s : Session) (os : List Object) (o : Object)
       record { outcome = 0; room = put-in-front (done-response []) room; store = pack (replaced (changed (row c) c o) os); session = flushed c s }
   unfolding performed stored
   written e =
-      performed-by c room store s os ready o finds gs e ∙
+      performed-by c room store s os ready o written-named gs e ∙
       (λ i. record { outcome = 0; room = put-in-front (done-response (asks .silent i)) room; store = stored (asks .puts i) store os; session = asks .leaves i })
 
   objects-kept : verdict c (length room) (some os) (flushed c s) ≡ Accepted → objects-allowed (replaced (changed (row c) c o) os) ≡ true
   objects-kept e =
       stored-kept c (length room) os (flushed c s) (changed (row c) c o) (pack-unpack store os (ready .store-sound) .1)
       (verdict-passed c (length room) (some os) (flushed c s) e)
-      (ap (λ (p : Operation). p .stores) (requested-is c room store s os ready o finds gs) ∙ asks .puts) .allowed
+      (ap (λ (p : Operation). p .stores) (requested-is c room store s os ready o written-named gs) ∙ asks .puts) .allowed
 
   pub write-exactly-when : WritesExactly c room store s os o (step c room store s)
   write-exactly-when =
@@ -234,8 +235,10 @@ module _ (c room store : List ℕ) (s : Session) (os : List Object) (o : Object)
 module _ (c room store : List ℕ) (s : Session) (os : List Object) (o : Object) (ready : Ready room store s os)
     (g : row c ≡ GetData) (finds : find (object-number c) os ≡ some o) where
   gets : gets-or-sets (row c) ≡ true
-  unfolding gets-or-sets
-  gets = rw g
+  gets = get-row (row c) g
+
+  read-named : named c os (flushed c s) ≡ some o
+  read-named = named-is c room store s os ready o finds
 
   shown : List ℕ
   shown = take (asked-length c) (drop (offset c) (o .content))
@@ -252,7 +255,7 @@ module _ (c room store : List ℕ) (s : Session) (os : List Object) (o : Object)
   reading : Reading (operation (row c) c o (flushed c s))
   unfolding operation getting shown
   reading =
-      rw (g, not-error-object (o .number) (not-in-session c room store s os ready o finds gets))
+      rw (g, not-error-object (o .number) (not-in-session c room store s os ready o finds))
       (record { asks = refl; bounds = refl; any = refl; answers = refl; stores = refl; leaves = refl })
 
   -- as many bytes as asked for, where they are there
@@ -262,7 +265,7 @@ module _ (c room store : List ℕ) (s : Session) (os : List Object) (o : Object)
 
   read-accepted : MayRead c (length room) s o → verdict c (length room) (some os) (flushed c s) ≡ Accepted
   read-accepted m =
-      accepted-by c room store s os ready o finds gets (m .command-well-formed)
+      accepted-by c room store s os ready o read-named gets (m .command-well-formed)
       (record {
         granted = reading .asks ∙ flush-keeps c s .same-holds (o .lcso) (o .read) ∙ m .read-condition-holds;
         within = reading .bounds ∙ le-leb (offset c + asked-length c) (used o) (m .within-used);
@@ -272,10 +275,10 @@ module _ (c room store : List ℕ) (s : Session) (os : List Object) (o : Object)
 
   accepted-read : verdict c (length room) (some os) (flushed c s) ≡ Accepted → MayRead c (length room) s o
   accepted-read e =
-      let l = late-by c room store s os ready o finds gets e in
+      let l = late-by c room store s os ready o read-named gets e in
       let inside = leb-true (offset c + asked-length c) (used o) (sym (reading .bounds) ∙ l .within) in
       record {
-        command-well-formed = was-well-formed c room store s os ready o finds gets e;
+        command-well-formed = was-well-formed c room store s os ready o read-named gets e;
         read-condition-holds = sym (flush-keeps c s .same-holds (o .lcso) (o .read)) ∙ sym (reading .asks) ∙ l .granted;
         within-used = inside;
         answer-fits = omega (arith, l .fits, ap length (reading .answers), shown-length inside);
@@ -285,7 +288,7 @@ module _ (c room store : List ℕ) (s : Session) (os : List Object) (o : Object)
       step c room store s ≡ record { outcome = 0; room = put-in-front (done-response shown) room; store = store; session = flushed c s }
   unfolding performed stored
   read-step e =
-      performed-by c room store s os ready o finds gets e ∙
+      performed-by c room store s os ready o read-named gets e ∙
       (λ i. record { outcome = 0; room = put-in-front (done-response (reading .answers i)) room; store = stored (reading .stores i) store os; session = reading .leaves i })
 
   pub read-exactly-when : ReadsExactly c room store s o (step c room store s)

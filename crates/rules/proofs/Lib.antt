@@ -10,8 +10,10 @@ pub mod Keeps
 pub mod Demand1
 pub mod Rows
 pub mod Demand2
+pub mod Shown
 pub mod Puts
 pub mod Demand3
 pub mod Resent
 pub mod SendBack
 pub mod Factory
+pub mod Witnesses

@@ -87,6 +87,10 @@ gets-or-sets OpenApplication = false
 gets-or-sets CloseApplication = false
 gets-or-sets Unknown = false
 
+pub get-row : (r : Row) → r ≡ GetData → gets-or-sets r ≡ true
+unfolding gets-or-sets
+get-row r g = rw g
+
 pub known-row : (r : Row) → gets-or-sets r ≡ true → (is-unknown r ≡ false) × (eqb (row-cmd r) 0x70 ≡ false)
 unfolding gets-or-sets is-unknown row-cmd
 known-row GetData h = (refl, refl)

@@ -17,7 +17,8 @@ use Rattle.rules.specs.Command.{asks-flush, row, in-length, names-object
 use Rattle.rules.specs.Response.{code, done-response, refused-response, put-in-front}
 use Rattle.rules.specs.Expression.{is-state, holds}
 use Rattle.rules.specs.Object.{Object, used, in-session}
-use Rattle.rules.specs.Layout.{unpack, pack, replaced}
+use Rattle.rules.specs.Layout.{unpack, pack, find, replaced}
+use Rattle.rules.specs.Session.{with-error}
 use Rattle.rules.specs.Metadata.{Field, fields-bytes, object-fields, led-by-20, metadata-allowed, sent-fields, with-fields}
 use Rattle.rules.specs.Operation.{put-at, with-content}
 use Rattle.rules.specs.Refusals.{ill-sized}
@@ -65,6 +66,7 @@ pub record Ready (room store : List ℕ) (s : Session) (os : List Object) : Type
   pub store-sound : unpack store ≡ some os
   pub lcsg-sound : is-state (s .lcsg) ≡ true
   pub lcsa-sound : is-state (s .lcsa) ≡ true
+  -- usable: LcsA is not 0F, and it is open
   pub not-terminated : eqb (s .lcsa) 0x0F ≡ false
   pub is-open : s .opened ≡ true
 
@@ -138,6 +140,50 @@ pub record ReadsExactly (c room store : List ℕ) (s : Session) (o : Object) (a 
       }
   pub only-when : is-done a ≡ true → MayRead c (length room) s o
   pub store-kept : a .store ≡ store
+
+-- the byte of each object of the session: E0C0 the LcsG, F1C0 the LcsA, F1C2 the last error
+unfoldable pub session-byte : ℕ → Session → Option ℕ
+session-byte n s =
+    if eqb n 0xE0C0 then some (s .lcsg) else
+    if eqb n 0xF1C0 then some (s .lcsa) else
+    if eqb n 0xF1C2 then some (s .error) else
+    none
+
+-- when a data read of an object of the session is answered: its byte is readable at all times
+pub record MayReadByte (c : List ℕ) (room : ℕ) (s : Session) (byte : ℕ) : Type 0 where
+  pub command-well-formed : well-formed c ≡ true
+  pub in-session : session-byte (object-number c) s ≡ some byte
+  pub within-byte : offset c + asked-length c ≤ 1
+  pub answer-fits : 4 + asked-length c ≤ room
+
+-- the session after it: the last error is 0 where its byte was returned
+unfoldable pub after-byte : List ℕ → Session → Session
+after-byte c s = if eqb (object-number c) 0xF1C2 && leb 1 (asked-length c) then with-error 0 s else s
+
+-- what stands after a data read that shows, of this byte, what is asked for
+abbrev pub byte-shown : List ℕ → ℕ → (room store : List ℕ) → Session → After
+byte-shown c byte room store s =
+    record {
+      outcome = 0;
+      room = put-in-front (done-response (take (asked-length c) (drop (offset c) (byte ∷ [])))) room;
+      store = store;
+      session = after-byte c s;
+    }
+
+-- what a data read that is done shows, with nothing assumed of store and session: they are sound, the application usable, the command
+-- well formed; and either the object is stored and its read condition holds, or it is one of the session's three
+pub data Shown (c room store : List ℕ) (s : Session) (a : After) : Type 0 where
+  of-object : (os : List Object) (o : Object) → Ready room store s os → find (object-number c) os ≡ some o → MayRead c (length room) s o →
+      a ≡
+      record {
+        outcome = 0;
+        room = put-in-front (done-response (take (asked-length c) (drop (offset c) (o .content)))) room;
+        store = store;
+        session = flushed c s;
+      } →
+      Shown c room store s a
+  of-session : (os : List Object) (byte : ℕ) → Ready room store s os → MayReadByte c (length room) (flushed c s) byte →
+      a ≡ byte-shown c byte room store (flushed c s) → Shown c room store s a
 
 -- the send-back case: an object's metadata read back, without C4 and C5, and the command that sends it in -------------------
 

@@ -14,7 +14,7 @@ use Rattle.rules.specs.Run.{Reply, Kept, reply, left, run}
 use Rattle.rules.proofs.Keeps.{step-room-length}
 use Rattle.primitives.specs.Bytes.{over}
 use Rattle.element.specs.declared.Answer.{Answer}
-use Rattle.element.specs.Executed.{executed}
+use Rattle.element.specs.Executed.{executed, Executes}
 use Rattle.runs.specs.Lists.{Returned, width, cut, behind, by-rules, lent, returned, in-place}
 
 -- `fitted`
@@ -32,7 +32,7 @@ module _ (commands rooms store : List ℕ) (session : Session) (at n to m : ℕ)
       ∙ length-take-le m (drop to rooms) (simp length-drop (omega arith))
 
   pub put-back : (r : Answer) (room′ store′ : List ℕ) → to + m ≤ length rooms
-      → executed r room′ store′ ≡ step (take (at + n - at) (drop at commands)) (take (to + m - to) (drop to rooms)) store session
+      → Executes (take (at + n - at) (drop at commands)) (take (to + m - to) (drop to rooms)) store session r room′ store′
       → executed r (take to rooms ++ (room′ ++ drop (to + m - to) (drop to rooms))) store′ ≡ in-place to rooms told
   unfolding over
   put-back r room′ store′ h e =

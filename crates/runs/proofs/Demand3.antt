@@ -1,6 +1,6 @@
 -- Demand 3 of runs of the library.
-use Prim.Native.Nat.{ℕ, zero, suc, _+_, min}
-use mathlib.Core.Path.{_≡_, refl, sym, ap, ap₂, _∙_}
+use Prim.Native.Nat.{ℕ, zero, suc, min}
+use mathlib.Core.Path.{_≡_, refl, sym, ap, ap₂, subst, _∙_}
 use mathlib.Core.List.{List, [], _∷_, _++_, map, flatMap, append-assoc}
 use native.Mathlib.Omega.{arith}
 use lib.ListN.{length, getD, take, drop, length-append, length-drop}
@@ -87,6 +87,10 @@ every-list-called (t ∷ ts) k =
     let a : After = step (t .command) (t .room) (k .store) (k .session) in
     call (record { outcome = a .outcome; session = a .session }) (a .room) (a .store) refl (every-list-called ts (left t k))
 
+-- a call of `run` gives what calls of `execute` give
+pub run-is-calls : (u : LibraryRun) → IsRun u → {ts : List Turn} {k : Kept} → Given ts k (u .lent) → Calls ts k (ran u)
+run-is-calls u h {ts} {k} g = subst (λ (a : Ran). Calls ts k a) (sym (run-by-rules u h g)) (every-list-called ts k)
+
 -- three runs of the rules, side by side -----------------------------------------------------------------------------------------
 
 alike : {xs ys zs : List Turn} (m : Mix xs ys zs) (k : Kept) → TwoLists xs ys → (mix here there : Ran)
@@ -108,20 +112,20 @@ alike {xs} {ys} {zs} m k two mix here there p q r =
       there-by-rules = r;
     }
 
--- Demand 3 of the library's `run`: for any two lists as the demand takes them, every mix of them, and any beginning
-pub runs-mix : {xs ys zs : List Turn} (m : Mix xs ys zs) (k : Kept) → TwoLists xs ys
-    → (mix here there : LibraryRun) → IsRun mix → IsRun here → IsRun there
-    → Given zs k (mix .lent) → Given (xs ++ ys) k (here .lent) → Given (ys ++ xs) k (there .lent)
-    → SideBySide m k (ran mix) (ran here) (ran there)
-runs-mix m k two mix here there a b c p q r =
-    alike m k two (ran mix) (ran here) (ran there) (run-by-rules mix a p) (run-by-rules here b q) (run-by-rules there c r)
-
--- and of any host that calls `execute` itself
+-- Demand 3 of any host that calls `execute` itself: for any two lists as the demand takes them, every mix of them, and any beginning
 pub calls-mix : {xs ys zs : List Turn} (m : Mix xs ys zs) (k : Kept) → TwoLists xs ys
     → {mix here there : Ran} → Calls zs k mix → Calls (xs ++ ys) k here → Calls (ys ++ xs) k there
     → SideBySide m k mix here there
 calls-mix m k two {mix} {here} {there} a b c =
     alike m k two mix here there (calls-by-rules a) (calls-by-rules b) (calls-by-rules c)
+
+-- and of the library's `run`, which makes such calls
+pub runs-mix : {xs ys zs : List Turn} (m : Mix xs ys zs) (k : Kept) → TwoLists xs ys
+    → (mix here there : LibraryRun) → IsRun mix → IsRun here → IsRun there
+    → Given zs k (mix .lent) → Given (xs ++ ys) k (here .lent) → Given (ys ++ xs) k (there .lent)
+    → SideBySide m k (ran mix) (ran here) (ran there)
+runs-mix m k two mix here there a b c p q r =
+    calls-mix m k two (run-is-calls mix a p) (run-is-calls here b q) (run-is-calls there c r)
 
 -- `side_by_side`
 pub three-runs : (mix here there : LibraryRun) → IsRun mix → IsRun here → IsRun there → ThreeRuns mix here there

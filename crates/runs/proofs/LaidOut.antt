@@ -8,7 +8,7 @@ use lib.Seq.{take-at, drop-at}
 use Rattle.mixing.specs.Runs.{All}
 use Rattle.rules.specs.Basic.{zeros}
 use Rattle.rules.specs.Run.{Turn, Kept}
-use Rattle.runs.specs.Lists.{cut, Given, laid-out, Fitting, InTypes}
+use Rattle.runs.specs.Lists.{cut, turns, Given, laid-out, Fitting, InTypes}
 
 -- the commands of the layout are the list's
 cut-back : (ts : List Turn)
@@ -51,6 +51,12 @@ all-zeros : (n : ℕ) → All (λ b. b < 256) (zeros n)
 all-zeros zero = tt
 all-zeros (suc n) = (omega arith, all-zeros n)
 
+-- what is lent are these commands
+pub laid-out-given : (ts : List Turn) (k : Kept) → Given ts k (laid-out ts k)
+laid-out-given ts k =
+    let same-commands : turns (laid-out ts k) ≡ ts = rw length-replicate (cut-back ts) in
+    search
+
 -- every list of commands whose bytes are bytes and whose sizes fit: there are buffers, of the parameters' types, whose commands are
 -- exactly these
 pub every-list-laid-out : (ts : List Turn) (k : Kept) → Fitting ts → InTypes (laid-out ts k) × Given ts k (laid-out ts k)
@@ -62,5 +68,5 @@ every-list-laid-out ts k h = (
     spaces = record { each = all-sizes (λ t. t .room) ts (h .rooms-fit); room = simp length-map (h .count-fits) };
     outcomes = record { each = all-zeros (length ts); room = simp length-replicate (omega arith) };
   },
-  record { commands = rw length-replicate (cut-back ts); beginning = refl },
+  laid-out-given ts k,
 )

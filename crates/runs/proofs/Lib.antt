@@ -1,3 +1,4 @@
 pub mod Cutting
 pub mod LaidOut
 pub mod Demand3
+pub mod Witnesses

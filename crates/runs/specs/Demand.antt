@@ -5,11 +5,10 @@ use mathlib.Core.List.{List, [], _∷_, _++_}
 use lib.ListN.{length, getD, take, drop}
 use Rattle.mixing.specs.Runs.{Mix, of-first, of-second}
 use Rattle.rules.specs.declared.Session.{Session}
-use Rattle.rules.specs.Step.{step}
 use Rattle.rules.specs.Run.{Turn, Reply, Kept, Ran, run}
 use Rattle.rules.specs.Demand.{TwoLists}
 use Rattle.element.specs.declared.Answer.{Answer}
-use Rattle.element.specs.Executed.{executed}
+use Rattle.element.specs.Executed.{Executes}
 use Rattle.runs.specs.Lists.{Lent, Returned, Given, width, by-rules}
 
 -- Three runs side by side, from one beginning k: of the mix, of the first list and then the second (here), and of the second and
@@ -74,7 +73,7 @@ pub record ThreeRuns (mix here there : LibraryRun) : Type 0 where
 pub data Calls : List Turn → Kept → Ran → Type 0 where
   over : {k : Kept} → Calls [] k (record { replies = []; kept = k })
   call : {t : Turn} {ts : List Turn} {store : List ℕ} {session : Session} {later : Ran} (r : Answer) (room′ store′ : List ℕ)
-      → executed r room′ store′ ≡ step (t .command) (t .room) store session
+      → Executes (t .command) (t .room) store session r room′ store′
       → Calls ts (record { store = store′; session = r .session }) later
       → Calls (t ∷ ts) (record { store = store; session = session })
       (record { replies = record { outcome = r .outcome; room = room′ } ∷ later .replies; kept = later .kept })

@@ -6,8 +6,8 @@ ghost use Prim.Native.Nat.{_+_, _≤_, min};
 ghost use lib.ListN.{length, getD, take, drop};
 ghost use Rattle.rules.specs.Step.{step};
 ghost use Rattle.element.specs.Executed.{executed};
-ghost use Rattle.runs.specs.Lists.{lent, returned, by-rules, in-place};
-ghost use Rattle.runs.specs.Demand.{ThreeRuns, library-run};
+ghost use Rattle.runs.specs.Lists.{lent, returned, in-place};
+ghost use Rattle.runs.specs.Demand.{ThreeRuns, IsRun, library-run};
 
 // The size at i, or 0 where there is none, but no more than is left.
 fn fitted(sizes: &[usize], i: usize, left: usize) -> usize
@@ -51,8 +51,9 @@ pub fn run(
     spaces: &[usize],
     outcomes: &mut [u8],
 ) -> Session
-    ensures { λ r. ⌜ returned (now (rooms .exit)) (now (outcomes .exit)) (now (store .exit)) r
-        ≡ by-rules (lent (now (commands .entry)) (now (sizes .entry)) (now (rooms .entry)) (now (spaces .entry)) (now (outcomes .entry)) (now (store .entry)) session) ⌝ }
+    ensures { λ r. ⌜ IsRun (library-run
+        (lent (now (commands .entry)) (now (sizes .entry)) (now (rooms .entry)) (now (spaces .entry)) (now (outcomes .entry)) (now (store .entry)) session)
+        (returned (now (rooms .exit)) (now (outcomes .exit)) (now (store .exit)) r)) ⌝ }
 {
     let mut kept = session;
     let mut at: usize = 0;
