@@ -9,6 +9,7 @@ use borrow.Author.Tests.{leb-true, not-true}
 use lib.Dec.{leb}
 use lib.ListN.{length, getD, take, drop, length-take, length-drop}
 use lib.Seq.{getD-drop}
+use Rattle.rules.specs.declared.ObjectNumber.{ObjectNumber}
 use Rattle.rules.specs.declared.Session.{Session}
 use Rattle.rules.specs.declared.Slot.{Slot}
 use Rattle.rules.specs.declared.Slot.the-variants.{Change, Read}
@@ -187,10 +188,10 @@ module _ (c b : List ℕ) (os : List Object) (s : Session) (room : ℕ) (w : Row
   unfolding from-nine no-such-object requested _refused_or_
   at-object r o eo f = rw (← ea, eo, and-false (names-object c), ← ew) f
 
-  pub at-session : (r : Verdict) (n byte : ℕ) (wr : Bool) → aim ≡ InSession n byte wr → r ≡ late-of (operation w c (kept n byte wr) s) room →
+  pub at-session : (r : Verdict) (n : ObjectNumber) (byte : ℕ) (wr : Bool) → aim ≡ InSession n byte wr → r ≡ late-of (operation w c (kept (n .0) byte wr) s) room →
       r ≡ from-nine c room (named c os s) s
   unfolding target-object
-  at-session r n byte wr e f = at-object r (kept n byte wr) (rw e) f
+  at-session r n byte wr e f = at-object r (kept (n .0) byte wr) (rw e) f
 
   pub at-record : (r : Verdict) (p : ℕ) → aim ≡ InStore p → r ≡ late-of (operation w c (object-at p b) s) room → r ≡ from-nine c room (named c os s) s
   unfolding target-object
@@ -202,7 +203,7 @@ module _ (c b : List ℕ) (os : List Object) (s : Session) (room : ℕ) (w : Row
 
 -- what is known of a target in hand
 module _ (c b : List ℕ) (aim : Target) (t : Placed aim c b) where
-  pub session-number : (n byte : ℕ) (wr : Bool) → aim ≡ InSession n byte wr → in-session n ≡ true
+  pub session-number : (n : ObjectNumber) (byte : ℕ) (wr : Bool) → aim ≡ InSession n byte wr → in-session (n .0) ≡ true
   session-number n byte wr e = rw e at t
 
   pub record-stands : (p : ℕ) → aim ≡ InStore p → Stored p b

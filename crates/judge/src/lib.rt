@@ -1,6 +1,7 @@
 // The object that a command names, and the steps 9 to 13.
 use rules::Found;
 use rules::Length;
+use rules::ObjectNumber;
 use rules::Refusal;
 use rules::Row;
 use rules::Session;
@@ -27,7 +28,7 @@ ghost use Rattle.judge.specs.Targets.{kept, target-object, Placed};
 
 // What a get or set names: an object of the session (its number, its byte, whether it may be written), a record's place, or nothing.
 pub enum Target {
-    InSession(u16, u8, bool),
+    InSession(ObjectNumber, u8, bool),
     InStore(usize),
     Nothing,
 }
@@ -40,13 +41,13 @@ pub fn find_target(command: &[u8], store: &[u8], session: Session) -> Target
     let number = command::object_number(command);
     let n = number.0;
     if n == 0xE0C0 {
-        return Target::InSession(n, session.lcsg, true);
+        return Target::InSession(number, session.lcsg, true);
     }
     if n == 0xF1C0 {
-        return Target::InSession(n, session.lcsa, true);
+        return Target::InSession(number, session.lcsa, true);
     }
     if n == 0xF1C2 {
-        return Target::InSession(n, session.error, false);
+        return Target::InSession(number, session.error, false);
     }
     let found = store::find_record(store, number);
     let Found::At(at) = found else {
@@ -88,14 +89,14 @@ fn judge_state(command: &[u8], byte: u8, writable: bool, room: usize) -> Verdict
 fn judge_session(
     asked: Row,
     command: &[u8],
-    number: u16,
+    number: ObjectNumber,
     byte: u8,
     writable: bool,
     session: Session,
     room: usize,
 ) -> Verdict
-    requires { ⌜ (in-session number ≡ true) × (4 ≤ length (now command)) × (length-right asked (length (now command) - 4) ≡ true) ⌝ }
-    ensures { λ r. ⌜ r ≡ late-of (operation asked (now (command .entry)) (kept number byte writable) session) room ⌝ }
+    requires { ⌜ (in-session (number .0) ≡ true) × (4 ≤ length (now command)) × (length-right asked (length (now command) - 4) ≡ true) ⌝ }
+    ensures { λ r. ⌜ r ≡ late-of (operation asked (now (command .entry)) (kept (number .0) byte writable) session) room ⌝ }
 {
     match asked {
         Row::GetData => judge_get(command, Length(1), true, room),

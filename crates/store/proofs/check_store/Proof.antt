@@ -63,8 +63,8 @@ add-low-at c = search needs
 low-at-requires-2 : tie.Need-low-at-requires-2 Inv-loop μ-loop
 low-at-requires-2 c κs = search needs
 
-cast-number : tie.Need-cast-number Inv-loop μ-loop
-cast-number c = search needs
+cast-n : tie.Need-cast-n Inv-loop μ-loop
+cast-n c = search needs
 
 returns-5 : tie.Need-returns-5 Inv-loop μ-loop
 returns-5 c = search (records-by, record-held, no, go, le-leb, is-leb, wrong-leb) depth 12 fits 50000
@@ -108,7 +108,7 @@ check-store-spec =
     returns-4
     add-low-at
     low-at-requires-2
-    cast-number
+    cast-n
     returns-5
     returns-6
     add-least
