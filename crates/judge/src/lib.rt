@@ -110,13 +110,13 @@ fn judge_session(
     }
 }
 
-// Whether the expression in a slot of a found record holds.
-fn slot_holds(store: &[u8], at: usize, slot: Slot, session: Session) -> bool
+// Whether the expression in a slot of a found record holds at this LcsO.
+fn slot_holds(store: &[u8], at: usize, slot: Slot, lcso: u8, session: Session) -> bool
     requires { ⌜ Stored at (now store) ⌝ }
-    ensures { λ r. ⌜ r ≡ holds session (object-at at (now (store .entry)) .lcso) (expression-in slot (object-at at (now (store .entry)))) ⌝ }
+    ensures { λ r. ⌜ r ≡ holds session lcso (expression-in slot (object-at at (now (store .entry)))) ⌝ }
 {
     let part = store::slot_part(store, at, slot);
-    expression::holds(part, session, store::lcso_at(store, at))
+    expression::holds(part, session, lcso)
 }
 
 // Steps 10 to 13 of a write of data to a found record.
@@ -125,17 +125,21 @@ fn judge_data(command: &[u8], store: &[u8], at: usize, session: Session, room: u
     ensures { λ r. ⌜ r ≡ late (holds session (object-at at (now (store .entry)) .lcso) (object-at at (now (store .entry)) .change))
         (leb (offset (now (command .entry)) + length (sent-data (now (command .entry)))) (object-at at (now (store .entry)) .maximum)) true 0 room ⌝ }
 {
-    let granted = slot_holds(store, at, Slot::Change, session);
+    let lcso = store::lcso_at(store, at);
+    let granted = slot_holds(store, at, Slot::Change, lcso, session);
     judge_write(command, store::maximum_at(store, at), granted, true, room)
 }
 
-// Steps 10 to 13 of a set of metadata at a found record.
-fn judge_metadata(command: &[u8], store: &[u8], at: usize, granted: bool, room: usize) -> Verdict
+// Steps 10 to 13 of a set of metadata at a found record: access and content are judged at the LcsO that is stored.
+fn judge_metadata(command: &[u8], store: &[u8], at: usize, session: Session, room: usize) -> Verdict
     requires { ⌜ Stored at (now store) × (6 ≤ length (now command)) ⌝ }
-    ensures { λ r. ⌜ r ≡ late granted true (metadata-allowed (object-at at (now (store .entry)) .lcso) (sent-metadata (now (command .entry)))) 0 room ⌝ }
+    ensures { λ r. ⌜ r ≡ late (holds session (object-at at (now (store .entry)) .lcso) (object-at at (now (store .entry)) .change)) true
+        (metadata-allowed (object-at at (now (store .entry)) .lcso) (sent-metadata (now (command .entry)))) 0 room ⌝ }
 {
     let content = command::sent_metadata(command);
-    let allowed = metadata::content_allowed(content, store::lcso_at(store, at));
+    let stored = store::lcso_at(store, at);
+    let granted = slot_holds(store, at, Slot::Change, stored, session);
+    let allowed = metadata::content_allowed(content, stored);
     command::late(granted, true, allowed, Length(0), room)
 }
 
@@ -155,7 +159,7 @@ fn judge_stored(
         Row::GetData => judge_get(
             command,
             store::used_at(store, at),
-            slot_holds(store, at, Slot::Read, session),
+            slot_holds(store, at, Slot::Read, store::lcso_at(store, at), session),
             room,
         ),
         Row::GetMetadata => command::late(
@@ -167,13 +171,7 @@ fn judge_stored(
         ),
         Row::Write => judge_data(command, store, at, session, room),
         Row::EraseAndWrite => judge_data(command, store, at, session, room),
-        Row::SetMetadata => judge_metadata(
-            command,
-            store,
-            at,
-            slot_holds(store, at, Slot::Change, session),
-            room,
-        ),
+        Row::SetMetadata => judge_metadata(command, store, at, session, room),
         Row::OpenApplication => command::late(true, true, true, Length(0), room),
         Row::CloseApplication => command::late(true, true, true, Length(0), room),
         Row::Unknown => command::late(true, true, true, Length(0), room),
