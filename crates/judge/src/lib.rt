@@ -39,14 +39,13 @@ pub fn find_target(command: &[u8], store: &[u8], session: Session) -> Target
         × Placed r (now (command .entry)) (now (store .entry)) ⌝ }
 {
     let number = command::object_number(command);
-    let n = number.0;
-    if n == 0xE0C0 {
+    if number.0 == 0xE0C0 {
         return Target::InSession(number, session.lcsg, true);
     }
-    if n == 0xF1C0 {
+    if number.0 == 0xF1C0 {
         return Target::InSession(number, session.lcsa, true);
     }
-    if n == 0xF1C2 {
+    if number.0 == 0xF1C2 {
         return Target::InSession(number, session.error, false);
     }
     let found = store::find_record(store, number);
