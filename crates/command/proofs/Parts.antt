@@ -2,9 +2,9 @@
 use Prim.Native.Nat.{ℕ, _+_, _-_, _<_, _≤_, max}
 use mathlib.Core.Path.{_≡_, refl, sym, ap, _∙_}
 use mathlib.Core.List.{List, [], _∷_}
-use mathlib.Core.Bool.{Bool, true, false, not}
+use mathlib.Core.Bool.{Bool, true, false}
 use native.Mathlib.Omega.{arith}
-use borrow.Author.Tests.{le-leb, lt-leb, leb-true, leb-false, lt-ltb, le-ltb}
+use borrow.Author.Tests.{le-leb, lt-leb, leb-true, leb-false, lt-ltb, le-ltb, ltb-true, ltb-false}
 use lib.Dec.{leb, ltb}
 use lib.ListN.{length, getD}
 use Rattle.rules.specs.declared.Refusal.{Refusal}
@@ -14,7 +14,6 @@ use Rattle.rules.specs.Command.{asks-flush, cmd, param, row-of, row}
 use Rattle.rules.specs.Response.{code}
 use Rattle.rules.specs.Session.{with-error}
 use Rattle.rules.specs.Step.{flushed, raised}
-use Rattle.command.proofs.Tests.{stop, next}
 
 pub empty-flush : (c : List ℕ) → length c < 1 → false ≡ asks-flush c
 unfolding asks-flush
@@ -36,12 +35,16 @@ up-to-limit a n limit h = both (leb n (limit - a)) refl
     both true e = let k = leb-true n (limit - a) e in e ∙ sym (le-leb (a + n) limit (omega arith))
     both false e = let k = leb-false n (limit - a) e in e ∙ sym (lt-leb (a + n) limit (omega arith))
 
--- the room of step 13 by the same test
-pub room-by : (n room : ℕ) (q t : Bool) → q ≡ leb (4 + n) room → not q ≡ t → ltb room (4 + n) ≡ t
-room-by n room true t e f = le-ltb room (4 + n) (leb-true (4 + n) room (sym e)) ∙ f
-room-by n room false t e f = lt-ltb room (4 + n) (leb-false (4 + n) room (sym e)) ∙ f
+-- the room of step 13 without a sum
+pub no-header : (n room : ℕ) → room < 4 → true ≡ ltb room (4 + n)
+no-header n room h = sym (lt-ltb room (4 + n) (omega arith))
 
-pub ruleset late-steps = (stop, next, room-by, refl)
+pub after-header : (n room : ℕ) → 4 ≤ room → ltb (room - 4) n ≡ ltb room (4 + n)
+after-header n room h = both (ltb (room - 4) n) refl
+  where
+    both : (t : Bool) → ltb (room - 4) n ≡ t → ltb (room - 4) n ≡ ltb room (4 + n)
+    both true e = let k = ltb-true (room - 4) n e in e ∙ sym (lt-ltb room (4 + n) (omega arith))
+    both false e = let k = ltb-false (room - 4) n e in e ∙ sym (le-ltb room (4 + n) (omega arith))
 
 pub code-by : (w v : Refusal) (r : ℕ) → w ≡ v → r ≡ code v → r ≡ code w
 code-by w v r e f = rw e f

@@ -26,6 +26,9 @@ next-call k later e h f = next k later (sym e ∙ h) f
 
 pub ruleset steps = (stop-call, next-call, refl)
 
+-- steps whose test is given, then one that was called
+pub ruleset late-steps = (stop, next, stop-call, next-call, refl)
+
 -- a choice by a test that was called
 pub if-call : {A : Type 0} {t q : Bool} {r x : A} (y : A) → q ≡ t → q ≡ true → r ≡ x → r ≡ (if t then x else y)
 if-call y e h f = rw (← e, h) f

@@ -8,7 +8,7 @@ use rules::Session;
 use rules::Verdict;
 ghost use mathlib.Core.Path.{_≡_};
 ghost use Prim.Native.Nat.{_+_, _≤_};
-ghost use lib.Dec.{leb};
+ghost use lib.Dec.{leb, ltb};
 ghost use lib.ListN.{length};
 ghost use Rattle.rules.specs.Basic.{same};
 ghost use Rattle.rules.specs.Command.{asks-flush, cmd, row-of, row, known-cmd, length-right};
@@ -18,6 +18,9 @@ ghost use Rattle.rules.specs.Refusals.{early, late};
 ghost use Rattle.rules.specs.Response.{code};
 ghost use Rattle.rules.specs.Session.{with-error};
 ghost use Rattle.rules.specs.Step.{flushed, raised};
+
+// Bytes of a response before its answer: status, 00 and OutLen.
+const HEADER: usize = 4;
 
 // The parts of a command.
 
@@ -279,6 +282,16 @@ pub fn fits(from: Offset, count: Length, limit: Length) -> bool
     count.0 <= limit.0 - from.0
 }
 
+// Step 13: a response whose answer has so many bytes is longer than a room of this size. A difference again.
+fn too_long(answer: Length, room: usize) -> bool
+    ensures { λ r. ⌜ r ≡ ltb room (4 + answer .0) ⌝ }
+{
+    if room < HEADER {
+        return true;
+    }
+    room - HEADER < answer.0
+}
+
 // The verdict on an answer of so many bytes, for a room of this size.
 pub fn late(granted: bool, within: bool, allowed: bool, answer: Length, room: usize) -> Verdict
     ensures { λ r. ⌜ r ≡ late granted within allowed (answer .0) room ⌝ }
@@ -292,7 +305,7 @@ pub fn late(granted: bool, within: bool, allowed: bool, answer: Length, room: us
     if !allowed {
         return Verdict::Refused(Refusal::InvalidData);
     }
-    if !fits(Offset(4), answer, Length(room)) {
+    if too_long(answer, room) {
         return Verdict::Refused(Refusal::InsufficientBuffer);
     }
     Verdict::Accepted

@@ -7,6 +7,7 @@ use mathlib.Core.Option.{Option, none, some}
 use native.Mathlib.Omega.{arith}
 use borrow.Author.Tests.{lt-ltb, le-ltb}
 use lib.ListN.{length}
+use Rattle.rules.specs.declared.ObjectNumber.{ObjectNumber}
 use Rattle.rules.specs.declared.Session.{Session}
 use Rattle.rules.specs.declared.Found.the-variants as found-at
 use Rattle.rules.specs.declared.Refusal.{Refusal}
@@ -57,10 +58,10 @@ module _ (c b : List ℕ) (s : Session) (w : Row) (ew : w ≡ row c) (aim : Targ
   late-at o room eo h =
       ap (λ p. late-of p room) (sym (requested-at o eo)) ∙ late-accepts (requested c (named c os s) s) room (nine-passed c room (named c os s) s h .1)
 
-  pub session-late : (room n byte : ℕ) (wr : Bool) → aim ≡ InSession n byte wr → from-nine c room (named c os s) s ≡ Accepted →
-      late-of (operation w c (kept n byte wr) s) room ≡ Accepted
+  pub session-late : (room : ℕ) (n : ObjectNumber) (byte : ℕ) (wr : Bool) → aim ≡ InSession n byte wr → from-nine c room (named c os s) s ≡ Accepted →
+      late-of (operation w c (kept (n .0) byte wr) s) room ≡ Accepted
   unfolding target-object
-  session-late room n byte wr e h = late-at (kept n byte wr) room (rw e) h
+  session-late room n byte wr e h = late-at (kept (n .0) byte wr) room (rw e) h
 
   pub record-late : (room p : ℕ) → aim ≡ InStore p → from-nine c room (named c os s) s ≡ Accepted → late-of (operation w c (object-at p b) s) room ≡ Accepted
   unfolding target-object
@@ -71,25 +72,25 @@ module _ (c b : List ℕ) (s : Session) (w : Row) (ew : w ≡ row c) (aim : Targ
 
   -- at an object of the session nothing is stored
   module _ (g : gets-or-sets w ≡ true) (room xs : List ℕ) (h : from-nine c (length room) (named c os s) s ≡ Accepted) where
-    nothing-stored : (n byte : ℕ) (wr : Bool) → in-session n ≡ true → aim ≡ InSession n byte wr → operation w c (kept n byte wr) s .stores ≡ none
+    nothing-stored : (n : ObjectNumber) (byte : ℕ) (wr : Bool) → in-session (n .0) ≡ true → aim ≡ InSession n byte wr → operation w c (kept (n .0) byte wr) s .stores ≡ none
     nothing-stored n byte wr i e = go w refl
       where
-        go : (v : Row) → w ≡ v → operation w c (kept n byte wr) s .stores ≡ none
+        go : (v : Row) → w ≡ v → operation w c (kept (n .0) byte wr) s .stores ≡ none
         go GetData q = unfold operation getting in rw q
         go GetMetadata q = unfold operation getting-metadata in rw q
         go Write q = unfold operation writing kept session-object in rw (q, i)
         go EraseAndWrite q = unfold operation writing kept session-object in rw (q, i)
-        go SetMetadata q = absurd (no-set w c n byte wr s (length room) i q (session-late (length room) n byte wr e h))
+        go SetMetadata q = absurd (no-set w c (n .0) byte wr s (length room) i q (session-late (length room) n byte wr e h))
         go OpenApplication q = absurd (not-open w q g)
         go CloseApplication q = absurd (not-close w q g)
         go Unknown q = absurd (not-unknown w q g)
 
-    pub session-done : (n byte : ℕ) (wr : Bool) (r : Session) → in-session n ≡ true → aim ≡ InSession n byte wr →
-        r ≡ operation w c (kept n byte wr) s .session → xs ≡ put-in-front (done-response (operation w c (kept n byte wr) s .answer)) room →
+    pub session-done : (n : ObjectNumber) (byte : ℕ) (wr : Bool) (r : Session) → in-session (n .0) ≡ true → aim ≡ InSession n byte wr →
+        r ≡ operation w c (kept (n .0) byte wr) s .session → xs ≡ put-in-front (done-response (operation w c (kept (n .0) byte wr) s .answer)) room →
         executed (record { outcome = 0; session = r }) xs b ≡ performed (requested c (named c os s) s) room b os
     unfolding performed stored target-object
     session-done n byte wr r i e er ex =
-        rw (requested-at (kept n byte wr) (rw e), nothing-stored n byte wr i e)
+        rw (requested-at (kept (n .0) byte wr) (rw e), nothing-stored n byte wr i e)
         (λ j. record { outcome = 0; room = ex j; store = b; session = er j })
 
     pub record-done : (p : ℕ) (b′ : List ℕ) → is-some (unpack b) ≡ true → aim ≡ InStore p → Placed aim c b →

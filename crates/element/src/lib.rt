@@ -1,5 +1,6 @@
 // The shipped library: one command carried out on a lent store and room, with the session by value.
 use judge::Target;
+use rules::ObjectNumber;
 use rules::Refusal;
 use rules::Row;
 use rules::Session;
@@ -78,10 +79,10 @@ fn with_opened(opened: bool, session: Session) -> Session
 }
 
 // A life cycle written, where the number is that of one.
-fn with_state(number: u16, state: u8, session: Session) -> Session
-    ensures { λ r. ⌜ r ≡ with-state number state session ⌝ }
+fn with_state(number: ObjectNumber, state: u8, session: Session) -> Session
+    ensures { λ r. ⌜ r ≡ with-state (number .0) state session ⌝ }
 {
-    if number == 0xE0C0 {
+    if number.0 == 0xE0C0 {
         return Session {
             opened: session.opened,
             lcsg: state,
@@ -89,7 +90,7 @@ fn with_state(number: u16, state: u8, session: Session) -> Session
             error: session.error,
         };
     }
-    if number == 0xF1C0 {
+    if number.0 == 0xF1C0 {
         return Session {
             opened: session.opened,
             lcsg: session.lcsg,
@@ -101,10 +102,10 @@ fn with_state(number: u16, state: u8, session: Session) -> Session
 }
 
 // The session after its object of this number was shown: the last error is cleared.
-fn shown_session(number: u16, session: Session) -> Session
-    ensures { λ r. ⌜ r ≡ (if eqb number 0xF1C2 then with-error 0 session else session) ⌝ }
+fn shown_session(number: ObjectNumber, session: Session) -> Session
+    ensures { λ r. ⌜ r ≡ (if eqb (number .0) 0xF1C2 then with-error 0 session else session) ⌝ }
 {
-    if number == 0xF1C2 {
+    if number.0 == 0xF1C2 {
         return Session {
             opened: session.opened,
             lcsg: session.lcsg,
@@ -116,9 +117,15 @@ fn shown_session(number: u16, session: Session) -> Session
 }
 
 // Answers a get of data from an object of the session: the session after it.
-fn show_byte(command: &[u8], number: u16, byte: u8, session: Session, room: &mut [u8]) -> Session
+fn show_byte(
+    command: &[u8],
+    number: ObjectNumber,
+    byte: u8,
+    session: Session,
+    room: &mut [u8],
+) -> Session
     requires { ⌜ (10 ≤ length (now command)) × (offset (now command) + asked-length (now command) ≤ 1) × (4 + asked-length (now command) ≤ length (now room)) ⌝ }
-    ensures { λ r. ⌜ (r ≡ (if eqb number 0xF1C2 && leb 1 (asked-length (now (command .entry))) then with-error 0 session else session))
+    ensures { λ r. ⌜ (r ≡ (if eqb (number .0) 0xF1C2 && leb 1 (asked-length (now (command .entry))) then with-error 0 session else session))
         × (now (room .exit) ≡ put-in-front (done-response (take (asked-length (now (command .entry))) (drop (offset (now (command .entry))) (byte ∷ [])))) (now (room .entry))) ⌝ }
 {
     let count = command::asked_length(command);
@@ -135,16 +142,16 @@ fn show_byte(command: &[u8], number: u16, byte: u8, session: Session, room: &mut
 fn perform_session(
     asked: Row,
     command: &[u8],
-    number: u16,
+    number: ObjectNumber,
     byte: u8,
     writable: bool,
     session: Session,
     room: &mut [u8],
 ) -> Session
-    requires { ⌜ (in-session number ≡ true) × (gets-or-sets asked ≡ true) × (4 ≤ length (now command)) × (length-right asked (length (now command) - 4) ≡ true)
-        × (late-of (operation asked (now command) (kept number byte writable) session) (length (now room)) ≡ Accepted) ⌝ }
-    ensures { λ r. ⌜ (r ≡ operation asked (now (command .entry)) (kept number byte writable) session .session)
-        × (now (room .exit) ≡ put-in-front (done-response (operation asked (now (command .entry)) (kept number byte writable) session .answer)) (now (room .entry))) ⌝ }
+    requires { ⌜ (in-session (number .0) ≡ true) × (gets-or-sets asked ≡ true) × (4 ≤ length (now command)) × (length-right asked (length (now command) - 4) ≡ true)
+        × (late-of (operation asked (now command) (kept (number .0) byte writable) session) (length (now room)) ≡ Accepted) ⌝ }
+    ensures { λ r. ⌜ (r ≡ operation asked (now (command .entry)) (kept (number .0) byte writable) session .session)
+        × (now (room .exit) ≡ put-in-front (done-response (operation asked (now (command .entry)) (kept (number .0) byte writable) session .answer)) (now (room .entry))) ⌝ }
 {
     match asked {
         Row::GetData => show_byte(command, number, byte, session, room),

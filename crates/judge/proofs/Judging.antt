@@ -9,6 +9,7 @@ use borrow.Author.Tests.{leb-true, not-true}
 use lib.Dec.{leb}
 use lib.ListN.{length, getD, take, drop, length-take, length-drop}
 use lib.Seq.{getD-drop}
+use Rattle.rules.specs.declared.ObjectNumber.{ObjectNumber}
 use Rattle.rules.specs.declared.Session.{Session}
 use Rattle.rules.specs.declared.Slot.{Slot}
 use Rattle.rules.specs.declared.Slot.the-variants.{Change, Read}
@@ -61,10 +62,8 @@ module _ (p : ℕ) (b : List ℕ) (t : Stored p b) (w : Slot) (part : List ℕ) 
   pub part-well-formed : is-some (expression part) ≡ true
   part-well-formed = ap (λ x. is-some (expression x)) e ∙ slot-expression p b w t
 
-  pub part-holds : (s : Session) (lcso : ℕ) (r : Bool) → lcso ≡ object-at p b .lcso → r ≡ holds s lcso (read-expression part) →
-      r ≡ holds s (object-at p b .lcso) (expression-in w (object-at p b))
-  part-holds s lcso r el er =
-      er ∙ (λ i. holds s (el i) (read-expression (e i))) ∙ ap (holds s (object-at p b .lcso)) (read-bytes (expression-in w (object-at p b)))
+  pub part-holds : (s : Session) (lcso : ℕ) (r : Bool) → r ≡ holds s lcso (read-expression part) → r ≡ holds s lcso (expression-in w (object-at p b))
+  part-holds s lcso r er = er ∙ ap (holds s lcso) (ap read-expression e ∙ read-bytes (expression-in w (object-at p b)))
 
 -- a get's answer is as long as asked, where it is within
 get-lengths : (g : Bool) (a n room : ℕ) (xs : List ℕ) →
@@ -135,18 +134,28 @@ module _ (p : ℕ) (b : List ℕ) (t : Stored p b) where
   pub outside : in-session (object-at p b .number) ≡ false
   outside = unfold object-allowed in not-true (in-session (object-at p b .number)) (at-place _ (standing p b (t .stands) .allowed) 1)
 
-  -- `judge_metadata`
-  pub metadata-by : (c : List ℕ) (g a : Bool) (r : Verdict) (d : List ℕ) (lcso room : ℕ) → d ≡ sent-metadata c → lcso ≡ object-at p b .lcso →
-      a ≡ metadata-allowed lcso d → r ≡ late g true a 0 room → r ≡ late g true (metadata-allowed (object-at p b .lcso) (sent-metadata c)) 0 room
-  metadata-by c g a r d lcso room ed el ea e = e ∙ (λ i. late g true ((ea ∙ (λ j. metadata-allowed (el j) (ed j))) i) 0 room)
+  -- `judge_metadata` and `judge_data`: the stored LcsO is asked
+  module _ (c : List ℕ) (s : Session) (g : Bool) (room : ℕ) (r : Verdict) (lcso : ℕ) (el : lcso ≡ object-at p b .lcso)
+      (eg : g ≡ holds s lcso (expression-in Change (object-at p b))) where
+    at-stored : g ≡ holds s (object-at p b .lcso) (object-at p b .change)
+    unfolding expression-in
+    at-stored = eg ∙ ap (λ l. holds s l (object-at p b .change)) el
+
+    pub metadata-by : (a : Bool) (d : List ℕ) → d ≡ sent-metadata c → a ≡ metadata-allowed lcso d → r ≡ late g true a 0 room →
+        r ≡ late (holds s (object-at p b .lcso) (object-at p b .change)) true (metadata-allowed (object-at p b .lcso) (sent-metadata c)) 0 room
+    metadata-by a d ed ea e = e ∙ (λ i. late (at-stored i) true ((ea ∙ (λ j. metadata-allowed (el j) (ed j))) i) 0 room)
+
+    pub data-by : (m : ℕ) → m ≡ object-at p b .maximum → r ≡ late g (leb (offset c + length (sent-data c)) m) true 0 room →
+        r ≡ late (holds s (object-at p b .lcso) (object-at p b .change)) (leb (offset c + length (sent-data c)) (object-at p b .maximum)) true 0 room
+    data-by m em e = e ∙ (λ i. late (at-stored i) (leb (offset c + length (sent-data c)) (em i)) true 0 room)
 
   module _ (w : Row) (c : List ℕ) (s : Session) (room : ℕ) (r : Verdict) where
-    pub stored-get : (g : Bool) (u : ℕ) → w ≡ GetData → g ≡ holds s (object-at p b .lcso) (expression-in Read (object-at p b)) → u ≡ used (object-at p b) →
+    pub stored-get : (g : Bool) (u lcso : ℕ) → w ≡ GetData → lcso ≡ object-at p b .lcso → g ≡ holds s lcso (expression-in Read (object-at p b)) → u ≡ used (object-at p b) →
         r ≡ late g (leb (offset c + asked-length c) u) true (asked-length c) room → r ≡ late-of (operation w c (object-at p b) s) room
     unfolding operation getting late-of expression-in
-    stored-get g u e eg eu f =
+    stored-get g u lcso e el eg eu f =
         rw e
-        (f ∙ (λ i. late (eg i) (leb (offset c + asked-length c) (eu i)) true (asked-length c) room) ∙
+        (f ∙ (λ i. late ((eg ∙ ap (λ l. holds s l (object-at p b .read)) el) i) (leb (offset c + asked-length c) (eu i)) true (asked-length c) room) ∙
         get-lengths _ (offset c) (asked-length c) room (object-at p b .content))
 
     pub stored-tell : (n : ℕ) → w ≡ GetMetadata → n ≡ length (metadata (object-at p b)) → r ≡ late true true true n room →
@@ -168,17 +177,11 @@ module _ (p : ℕ) (b : List ℕ) (t : Stored p b) where
       unfolding operation
       stored-erase e = rw e (stored-writing [])
 
-    pub stored-set : (g : Bool) → g ≡ holds s (object-at p b .lcso) (expression-in Change (object-at p b)) → w ≡ SetMetadata →
-        r ≡ late g true (metadata-allowed (object-at p b .lcso) (sent-metadata c)) 0 room → r ≡ late-of (operation w c (object-at p b) s) room
-    unfolding operation setting-metadata late-of expression-in
-    stored-set g eg e f = rw (e, outside) (f ∙ (λ i. late (eg i) true (metadata-allowed (object-at p b .lcso) (sent-metadata c)) 0 room))
-
-  -- `judge_data`
-  pub data-by : (c : List ℕ) (s : Session) (g : Bool) (m room : ℕ) (r : Verdict) → g ≡ holds s (object-at p b .lcso) (expression-in Change (object-at p b)) →
-      m ≡ object-at p b .maximum → r ≡ late g (leb (offset c + length (sent-data c)) m) true 0 room →
-      r ≡ late (holds s (object-at p b .lcso) (object-at p b .change)) (leb (offset c + length (sent-data c)) (object-at p b .maximum)) true 0 room
-  unfolding expression-in
-  data-by c s g m room r eg em e = e ∙ (λ i. late (eg i) (leb (offset c + length (sent-data c)) (em i)) true 0 room)
+    pub stored-set : w ≡ SetMetadata →
+        r ≡ late (holds s (object-at p b .lcso) (object-at p b .change)) true (metadata-allowed (object-at p b .lcso) (sent-metadata c)) 0 room →
+        r ≡ late-of (operation w c (object-at p b) s) room
+    unfolding operation setting-metadata late-of
+    stored-set e f = rw (e, outside) f
 
 -- step 9, and the later ones at the object named --------------------------------------------------------------------------------
 
@@ -187,10 +190,10 @@ module _ (c b : List ℕ) (os : List Object) (s : Session) (room : ℕ) (w : Row
   unfolding from-nine no-such-object requested _refused_or_
   at-object r o eo f = rw (← ea, eo, and-false (names-object c), ← ew) f
 
-  pub at-session : (r : Verdict) (n byte : ℕ) (wr : Bool) → aim ≡ InSession n byte wr → r ≡ late-of (operation w c (kept n byte wr) s) room →
+  pub at-session : (r : Verdict) (n : ObjectNumber) (byte : ℕ) (wr : Bool) → aim ≡ InSession n byte wr → r ≡ late-of (operation w c (kept (n .0) byte wr) s) room →
       r ≡ from-nine c room (named c os s) s
   unfolding target-object
-  at-session r n byte wr e f = at-object r (kept n byte wr) (rw e) f
+  at-session r n byte wr e f = at-object r (kept (n .0) byte wr) (rw e) f
 
   pub at-record : (r : Verdict) (p : ℕ) → aim ≡ InStore p → r ≡ late-of (operation w c (object-at p b) s) room → r ≡ from-nine c room (named c os s) s
   unfolding target-object
@@ -202,7 +205,7 @@ module _ (c b : List ℕ) (os : List Object) (s : Session) (room : ℕ) (w : Row
 
 -- what is known of a target in hand
 module _ (c b : List ℕ) (aim : Target) (t : Placed aim c b) where
-  pub session-number : (n byte : ℕ) (wr : Bool) → aim ≡ InSession n byte wr → in-session n ≡ true
+  pub session-number : (n : ObjectNumber) (byte : ℕ) (wr : Bool) → aim ≡ InSession n byte wr → in-session (n .0) ≡ true
   session-number n byte wr e = rw e at t
 
   pub record-stands : (p : ℕ) → aim ≡ InStore p → Stored p b

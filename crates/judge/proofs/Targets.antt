@@ -5,6 +5,7 @@ use mathlib.Core.Bool.{true, false}
 use mathlib.Core.List.{List, []}
 use mathlib.Core.Option.{none}
 use borrow.Author.Tests.{ne-eqb}
+use Rattle.rules.specs.declared.ObjectNumber.{ObjectNumber}
 use Rattle.rules.specs.declared.Session.{Session}
 use Rattle.rules.specs.declared.Found.{Found}
 use Rattle.rules.specs.declared.Found.the-variants as found-at
@@ -34,16 +35,16 @@ pub error-in-session : (n : ℕ) → n ≡ 0xF1C2 → in-session n ≡ true
 unfolding in-session among
 error-in-session n h = rw h
 
-module _ (c b : List ℕ) (os : List Object) (s : Session) (n : ℕ) (e : n ≡ object-number c) where
-  pub lcsg-named : n ≡ 0xE0C0 → target-object (InSession n (s .lcsg) true) b ≡ named c os s
+module _ (c b : List ℕ) (os : List Object) (s : Session) (n : ObjectNumber) (e : n .0 ≡ object-number c) where
+  pub lcsg-named : n .0 ≡ 0xE0C0 → target-object (InSession n (s .lcsg) true) b ≡ named c os s
   unfolding target-object kept named session-objects session-object find
   lcsg-named h = rw (← e, h)
 
-  pub lcsa-named : n ≡ 0xF1C0 → target-object (InSession n (s .lcsa) true) b ≡ named c os s
+  pub lcsa-named : n .0 ≡ 0xF1C0 → target-object (InSession n (s .lcsa) true) b ≡ named c os s
   unfolding target-object kept named session-objects session-object find
   lcsa-named h = rw (← e, h)
 
-  pub error-named : n ≡ 0xF1C2 → target-object (InSession n (s .error) false) b ≡ named c os s
+  pub error-named : n .0 ≡ 0xF1C2 → target-object (InSession n (s .error) false) b ≡ named c os s
   unfolding target-object kept named session-objects session-object find
   error-named h = rw (← e, h)
 

@@ -20,12 +20,12 @@ unfoldable pub kept : ℕ → ℕ → Bool → Object
 kept n byte writable = session-object n byte (if writable then always else never)
 
 unfoldable pub target-object : Target → List ℕ → Option Object
-target-object (InSession n byte writable) b = some (kept n byte writable)
+target-object (InSession n byte writable) b = some (kept (n .0) byte writable)
 target-object (InStore p) b = some (object-at p b)
 target-object Nothing b = none
 
 -- what is known of a target: the number is the session's; a record stands there, found under the command's object number
 abbrev pub Placed : Target → List ℕ → List ℕ → Type 0
-Placed (InSession n byte writable) c b = in-session n ≡ true
+Placed (InSession n byte writable) c b = in-session (n .0) ≡ true
 Placed (InStore p) c b = Stored p b × (found (object-number c) (or-else (unpack b) []) ≡ found-at.At p)
 Placed Nothing c b = Unit

@@ -1,6 +1,7 @@
 // The object that a command names, and the steps 9 to 13.
 use rules::Found;
 use rules::Length;
+use rules::ObjectNumber;
 use rules::Refusal;
 use rules::Row;
 use rules::Session;
@@ -27,7 +28,7 @@ ghost use Rattle.judge.specs.Targets.{kept, target-object, Placed};
 
 // What a get or set names: an object of the session (its number, its byte, whether it may be written), a record's place, or nothing.
 pub enum Target {
-    InSession(u16, u8, bool),
+    InSession(ObjectNumber, u8, bool),
     InStore(usize),
     Nothing,
 }
@@ -38,15 +39,14 @@ pub fn find_target(command: &[u8], store: &[u8], session: Session) -> Target
         × Placed r (now (command .entry)) (now (store .entry)) ⌝ }
 {
     let number = command::object_number(command);
-    let n = number.0;
-    if n == 0xE0C0 {
-        return Target::InSession(n, session.lcsg, true);
+    if number.0 == 0xE0C0 {
+        return Target::InSession(number, session.lcsg, true);
     }
-    if n == 0xF1C0 {
-        return Target::InSession(n, session.lcsa, true);
+    if number.0 == 0xF1C0 {
+        return Target::InSession(number, session.lcsa, true);
     }
-    if n == 0xF1C2 {
-        return Target::InSession(n, session.error, false);
+    if number.0 == 0xF1C2 {
+        return Target::InSession(number, session.error, false);
     }
     let found = store::find_record(store, number);
     let Found::At(at) = found else {
@@ -88,14 +88,14 @@ fn judge_state(command: &[u8], byte: u8, writable: bool, room: usize) -> Verdict
 fn judge_session(
     asked: Row,
     command: &[u8],
-    number: u16,
+    number: ObjectNumber,
     byte: u8,
     writable: bool,
     session: Session,
     room: usize,
 ) -> Verdict
-    requires { ⌜ (in-session number ≡ true) × (4 ≤ length (now command)) × (length-right asked (length (now command) - 4) ≡ true) ⌝ }
-    ensures { λ r. ⌜ r ≡ late-of (operation asked (now (command .entry)) (kept number byte writable) session) room ⌝ }
+    requires { ⌜ (in-session (number .0) ≡ true) × (4 ≤ length (now command)) × (length-right asked (length (now command) - 4) ≡ true) ⌝ }
+    ensures { λ r. ⌜ r ≡ late-of (operation asked (now (command .entry)) (kept (number .0) byte writable) session) room ⌝ }
 {
     match asked {
         Row::GetData => judge_get(command, Length(1), true, room),
@@ -109,13 +109,13 @@ fn judge_session(
     }
 }
 
-// Whether the expression in a slot of a found record holds.
-fn slot_holds(store: &[u8], at: usize, slot: Slot, session: Session) -> bool
+// Whether the expression in a slot of a found record holds at this LcsO.
+fn slot_holds(store: &[u8], at: usize, slot: Slot, lcso: u8, session: Session) -> bool
     requires { ⌜ Stored at (now store) ⌝ }
-    ensures { λ r. ⌜ r ≡ holds session (object-at at (now (store .entry)) .lcso) (expression-in slot (object-at at (now (store .entry)))) ⌝ }
+    ensures { λ r. ⌜ r ≡ holds session lcso (expression-in slot (object-at at (now (store .entry)))) ⌝ }
 {
     let part = store::slot_part(store, at, slot);
-    expression::holds(part, session, store::lcso_at(store, at))
+    expression::holds(part, session, lcso)
 }
 
 // Steps 10 to 13 of a write of data to a found record.
@@ -124,17 +124,21 @@ fn judge_data(command: &[u8], store: &[u8], at: usize, session: Session, room: u
     ensures { λ r. ⌜ r ≡ late (holds session (object-at at (now (store .entry)) .lcso) (object-at at (now (store .entry)) .change))
         (leb (offset (now (command .entry)) + length (sent-data (now (command .entry)))) (object-at at (now (store .entry)) .maximum)) true 0 room ⌝ }
 {
-    let granted = slot_holds(store, at, Slot::Change, session);
+    let lcso = store::lcso_at(store, at);
+    let granted = slot_holds(store, at, Slot::Change, lcso, session);
     judge_write(command, store::maximum_at(store, at), granted, true, room)
 }
 
-// Steps 10 to 13 of a set of metadata at a found record.
-fn judge_metadata(command: &[u8], store: &[u8], at: usize, granted: bool, room: usize) -> Verdict
+// Steps 10 to 13 of a set of metadata at a found record: access and content are judged at the LcsO that is stored.
+fn judge_metadata(command: &[u8], store: &[u8], at: usize, session: Session, room: usize) -> Verdict
     requires { ⌜ Stored at (now store) × (6 ≤ length (now command)) ⌝ }
-    ensures { λ r. ⌜ r ≡ late granted true (metadata-allowed (object-at at (now (store .entry)) .lcso) (sent-metadata (now (command .entry)))) 0 room ⌝ }
+    ensures { λ r. ⌜ r ≡ late (holds session (object-at at (now (store .entry)) .lcso) (object-at at (now (store .entry)) .change)) true
+        (metadata-allowed (object-at at (now (store .entry)) .lcso) (sent-metadata (now (command .entry)))) 0 room ⌝ }
 {
     let content = command::sent_metadata(command);
-    let allowed = metadata::content_allowed(content, store::lcso_at(store, at));
+    let stored = store::lcso_at(store, at);
+    let granted = slot_holds(store, at, Slot::Change, stored, session);
+    let allowed = metadata::content_allowed(content, stored);
     command::late(granted, true, allowed, Length(0), room)
 }
 
@@ -154,7 +158,7 @@ fn judge_stored(
         Row::GetData => judge_get(
             command,
             store::used_at(store, at),
-            slot_holds(store, at, Slot::Read, session),
+            slot_holds(store, at, Slot::Read, store::lcso_at(store, at), session),
             room,
         ),
         Row::GetMetadata => command::late(
@@ -166,13 +170,7 @@ fn judge_stored(
         ),
         Row::Write => judge_data(command, store, at, session, room),
         Row::EraseAndWrite => judge_data(command, store, at, session, room),
-        Row::SetMetadata => judge_metadata(
-            command,
-            store,
-            at,
-            slot_holds(store, at, Slot::Change, session),
-            room,
-        ),
+        Row::SetMetadata => judge_metadata(command, store, at, session, room),
         Row::OpenApplication => command::late(true, true, true, Length(0), room),
         Row::CloseApplication => command::late(true, true, true, Length(0), room),
         Row::Unknown => command::late(true, true, true, Length(0), room),

@@ -37,12 +37,13 @@ step-small : (c room store : List ℕ) (s : Session) → step c room store s .ou
 unfolding step judged unanswered
 step-small c room store s = either-small (ltb (length room) 4) _ _ (omega arith) (answered-small _ c room store _ _)
 
+pub outcome-small : (n : ℕ) (room′ store′ : List ℕ) (s′ : Session) (c room store : List ℕ) (s : Session) →
+    record { outcome = n; room = room′; store = store′; session = s′ } ≡ step c room store s → n < 16
+outcome-small n room′ store′ s′ c room store s e = rw (ap (λ (a : After). a .outcome) e) (step-small c room store s)
+
+-- `put_line`
 module _ (n : ℕ) (room′ store′ : List ℕ) (s′ : Session) (c store : List ℕ) (s : Session)
     (e : record { outcome = n; room = room′; store = store′; session = s′ } ≡ step c (zeros 1504) store s) where
-  pub outcome-small : n < 16
-  outcome-small = rw (ap (λ (a : After). a .outcome) e) (step-small c (zeros 1504) store s)
-
-  -- `put_line`
   pub line-put : (at d n₁ n₂ n₃ n₄ : ℕ) (o o₁ o₂ o₃ o₄ : List ℕ) → d ≡ digit n
       → Put at (d ∷ []) o o₁ n₁ → Put n₁ (0x20 ∷ []) o₁ o₂ n₂ → Put n₂ (upper-hex (response-in room′)) o₂ o₃ n₃ → Put n₃ (0x0A ∷ []) o₃ o₄ n₄
       → Put at (answer-line (step c (zeros 1504) store s)) o o₄ n₄

@@ -5,7 +5,7 @@ use mathlib.Core.List.{List, [], _∷_, _++_, append-assoc}
 use lib.ListN.{length, drop}
 use native.Mathlib.Omega.{arith}
 use native.Mathlib.Nat.{zero-add}
-use Rattle.rules.specs.Basic.{high-first}
+use Rattle.rules.specs.Basic.{high-first, zeros}
 use Rattle.rules.specs.Response.{put-in-front, done-response, refused-response}
 use Rattle.primitives.specs.Bytes.{over}
 use Rattle.primitives.proofs.Over.{over-over, over-length}
@@ -18,6 +18,10 @@ front-over y xs = ap (λ k. y ++ drop k xs) (zero-add (length y))
 pub refused-by : (r xs : List ℕ) → r ≡ over 0 (0xFF ∷ 0x00 ∷ 0x00 ∷ 0x00 ∷ []) xs → r ≡ put-in-front refused-response xs
 unfolding refused-response
 refused-by r xs e = e ∙ front-over (0xFF ∷ 0x00 ∷ 0x00 ∷ 0x00 ∷ []) xs
+
+pub done-by : (r xs : List ℕ) → r ≡ over 0 (zeros 4) xs → r ≡ put-in-front (done-response []) xs
+unfolding done-response
+done-by r xs e = e ∙ front-over (zeros 4) xs
 
 module _ (n : ℕ) (xs q : List ℕ) where
   pub begun-head : q ≡ over 0 (0x00 ∷ 0x00 ∷ high-first n) xs → q ≡ begun n [] xs
@@ -39,10 +43,7 @@ module _ (n : ℕ) (xs q : List ℕ) where
   unfolding begun done-response
   begun-done x l e = e ∙ ap (λ k. over 0 ((0x00 ∷ 0x00 ∷ high-first k) ++ x) xs) l ∙ front-over ((0x00 ∷ 0x00 ∷ high-first (length x)) ++ x) xs
 
--- with nothing behind the head, and with bytes right behind it
-pub head-done : (xs q : List ℕ) → q ≡ over 0 (0x00 ∷ 0x00 ∷ high-first 0) xs → q ≡ put-in-front (done-response []) xs
-head-done xs q e = begun-done 0 xs q [] refl (begun-head 0 xs q e)
-
+-- with bytes right behind the head
 pub head-then : (n : ℕ) (xs q r x : List ℕ) → q ≡ over 0 (0x00 ∷ 0x00 ∷ high-first n) xs → r ≡ over 4 x q → n ≡ length x → 4 + length x ≤ length xs →
     r ≡ put-in-front (done-response x) xs
 head-then n xs q r x e f l h = begun-done n xs r x l (begun-more n xs q [] x r 4 (begun-head n xs q e) f refl h)

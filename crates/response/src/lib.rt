@@ -27,12 +27,12 @@ pub fn head(room: &mut [u8], answer: Length)
     primitives::put(room, 0, &bytes);
 }
 
-// Done, with nothing to say.
+// Done, with nothing to say: four zeros.
 pub fn done(room: &mut [u8])
     requires { ⌜ 4 ≤ length (now room) ⌝ }
     ensures { λ _. ⌜ now (room .exit) ≡ put-in-front (done-response []) (now (room .entry)) ⌝ }
 {
-    head(room, Length(0));
+    primitives::put_zeros(room, 0, 4);
 }
 
 // Done, with all of out.

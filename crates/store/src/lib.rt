@@ -102,10 +102,11 @@ fn slot_ok(part: &[u8]) -> bool
     filled(part, n)
 }
 
-fn in_session(number: u16) -> bool
-    ensures { λ r. ⌜ r ≡ in-session number ⌝ }
+fn in_session(number: ObjectNumber) -> bool
+    ensures { λ r. ⌜ r ≡ in-session (number .0) ⌝ }
 {
-    match number {
+    let n = number.0;
+    match n {
         0xE0C0 | 0xF1C0 | 0xF1C2 => true,
         _ => false,
     }
@@ -125,7 +126,7 @@ fn head_ok(part: &[u8]) -> bool
     if primitives::low_at(part, KIND) != DATA_KIND {
         return false;
     }
-    if in_session(primitives::low_at(part, NUMBER)) {
+    if in_session(ObjectNumber(primitives::low_at(part, NUMBER))) {
         return false;
     }
     let maximum = primitives::low_at(part, MAXIMUM);
@@ -195,14 +196,15 @@ pub fn check_store(store: &[u8]) -> bool
         if !record_ok(&store[at..end]) {
             return false;
         }
-        let number = primitives::low_at(store, at + NUMBER) as usize;
-        if number < least {
+        let number = ObjectNumber(primitives::low_at(store, at + NUMBER));
+        let n = number.0 as usize;
+        if n < least {
             return false;
         }
         if rest == size {
             return true;
         }
-        least = number + 1;
+        least = n + 1;
         at = end;
         left -= 1;
     }
@@ -214,11 +216,10 @@ pub fn find_record(store: &[u8], number: ObjectNumber) -> Found
     requires { ⌜ is-some (unpack (now store)) ≡ true ⌝ }
     ensures { λ r. ⌜ r ≡ found (number .0) (or-else (unpack (now (store .entry))) []) ⌝ }
 {
-    let wanted = number.0;
     let mut at: usize = 0;
     while at < store.len() {
         let next = at + DATA + primitives::low_at(store, at + MAXIMUM) as usize;
-        if primitives::low_at(store, at + NUMBER) == wanted {
+        if primitives::low_at(store, at + NUMBER) == number.0 {
             return Found::At(at);
         }
         at = next;

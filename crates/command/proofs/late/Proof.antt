@@ -1,6 +1,6 @@
 -- `command::late` meets its contract.
 use Rattle.rules.specs.Refusals.{late}
-use Rattle.command.proofs.Parts.{late-steps}
+use Rattle.command.proofs.Tests.{late-steps}
 use borrow.Author.Needs.{needs}
 use Rattle.command.proofs.late.Statement.{statement}
 use Rattle.command.proofs.late.Tie as tie
@@ -17,8 +17,8 @@ returns-3 : tie.Need-returns-3
 unfolding late
 returns-3 c = search late-steps depth 12 fits 5000
 
-fits-requires : tie.Need-fits-requires
-fits-requires c κs = search needs
+too-long-requires : tie.Need-too-long-requires
+too-long-requires c κs = search needs
 
 returns-4 : tie.Need-returns-4
 unfolding late
@@ -29,4 +29,4 @@ unfolding late
 returns-5 c = search late-steps depth 12 fits 5000
 
 pub late-spec : {M : Type 1} → statement M
-late-spec = tie.close (tie.spec returns returns-2 returns-3 fits-requires returns-4 returns-5)
+late-spec = tie.close (tie.spec returns returns-2 returns-3 too-long-requires returns-4 returns-5)

@@ -10,6 +10,9 @@ sent-metadata-requires c κs = search needs
 lcso-at-requires : tie.Need-lcso-at-requires
 lcso-at-requires c κs = search needs
 
+slot-holds-requires : tie.Need-slot-holds-requires
+slot-holds-requires c κs = search needs
+
 content-allowed-requires : tie.Need-content-allowed-requires
 content-allowed-requires c κs = search needs
 
@@ -25,6 +28,7 @@ judge-metadata-spec =
     (tie.spec
     sent-metadata-requires
     lcso-at-requires
+    slot-holds-requires
     content-allowed-requires
     late-requires
     returns)

@@ -13,6 +13,9 @@ enum-told c = search needs
 used-at-requires : tie.Need-used-at-requires
 used-at-requires c κs = search needs
 
+lcso-at-requires : tie.Need-lcso-at-requires
+lcso-at-requires c κs = search needs
+
 slot-holds-requires : tie.Need-slot-holds-requires
 slot-holds-requires c κs = search needs
 
@@ -45,9 +48,6 @@ judge-data-requires-2 c κs = (search needs, search (long-enough, lit≤))
 
 enum-told-5 : tie.Need-enum-told-5
 enum-told-5 c = search needs
-
-slot-holds-requires-2 : tie.Need-slot-holds-requires-2
-slot-holds-requires-2 c κs = search needs
 
 judge-metadata-requires : tie.Need-judge-metadata-requires
 unfolding least
@@ -101,6 +101,7 @@ judge-stored-spec =
     (tie.spec
     enum-told
     used-at-requires
+    lcso-at-requires
     slot-holds-requires
     judge-get-requires
     enum-told-2
@@ -111,7 +112,6 @@ judge-stored-spec =
     enum-told-4
     judge-data-requires-2
     enum-told-5
-    slot-holds-requires-2
     judge-metadata-requires
     enum-told-6
     late-requires-2

@@ -7,9 +7,6 @@ use Rattle.judge.proofs.slot_holds.Tie as tie
 slot-part-requires : tie.Need-slot-part-requires
 slot-part-requires c κs = search needs
 
-lcso-at-requires : tie.Need-lcso-at-requires
-lcso-at-requires c κs = search needs
-
 holds-requires : tie.Need-holds-requires
 holds-requires c κs = search part-well-formed
 
@@ -17,4 +14,4 @@ returns : tie.Need-returns
 returns c = search part-holds
 
 pub slot-holds-spec : {M : Type 1} → statement M
-slot-holds-spec = tie.close (tie.spec slot-part-requires lcso-at-requires holds-requires returns)
+slot-holds-spec = tie.close (tie.spec slot-part-requires holds-requires returns)

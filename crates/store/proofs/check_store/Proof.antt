@@ -13,7 +13,7 @@ use Rattle.store.proofs.check_store.Statement.{statement}
 use Rattle.store.proofs.check_store.Tie as tie
 
 abbrev Inv-loop : tie.InvT-loop
-Inv-loop store at₀ left₀ least₀ at left least = (at ≤ length store) × (left ≤ 32) × (is-some (unpack store) ≡ records-at left least at store)
+Inv-loop store at₀ left₀ least₀ at left least = (at ≤ length store) × (is-some (unpack store) ≡ records-at left least at store)
 
 abbrev μ-loop : tie.MeasureT-loop
 μ-loop store at₀ left₀ least₀ at left least = left
@@ -22,7 +22,7 @@ returns : tie.Need-returns Inv-loop μ-loop
 returns c = search store-long
 
 loop-holds : tie.Need-loop-holds Inv-loop μ-loop
-loop-holds c = (omega arith, omega arith, search store-joined)
+loop-holds c = (omega arith, search store-joined)
 
 sub-rest : tie.Need-sub-rest Inv-loop μ-loop
 sub-rest c = search needs
@@ -63,8 +63,8 @@ add-low-at c = search needs
 low-at-requires-2 : tie.Need-low-at-requires-2 Inv-loop μ-loop
 low-at-requires-2 c κs = search needs
 
-cast-number : tie.Need-cast-number Inv-loop μ-loop
-cast-number c = search needs
+cast-n : tie.Need-cast-n Inv-loop μ-loop
+cast-n c = search needs
 
 returns-5 : tie.Need-returns-5 Inv-loop μ-loop
 returns-5 c = search (records-by, record-held, no, go, le-leb, is-leb, wrong-leb) depth 12 fits 50000
@@ -82,7 +82,7 @@ loop-less : tie.Need-loop-less Inv-loop μ-loop
 loop-less c = search needs
 
 loop-again : tie.Need-loop-again Inv-loop μ-loop
-loop-again c = (omega arith, omega arith, search (records-on, same-rest, record-held, rest-neqb, go, or-go, le-leb, is-leb, right-leb) depth 12 fits 50000)
+loop-again c = (omega arith, search (records-on, same-rest, record-held, rest-neqb, go, or-go, le-leb, is-leb, right-leb) depth 12 fits 50000)
 
 returns-7 : tie.Need-returns-7 Inv-loop μ-loop
 returns-7 c = search records-end
@@ -108,7 +108,7 @@ check-store-spec =
     returns-4
     add-low-at
     low-at-requires-2
-    cast-number
+    cast-n
     returns-5
     returns-6
     add-least

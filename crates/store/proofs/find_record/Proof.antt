@@ -7,10 +7,10 @@ use Rattle.store.proofs.find_record.Statement.{statement}
 use Rattle.store.proofs.find_record.Tie as tie
 
 abbrev Inv-loop : tie.InvT-loop
-Inv-loop store wanted at₀ at = Ahead wanted store at
+Inv-loop store number at₀ at = Ahead (number .0) store at
 
 abbrev μ-loop : tie.MeasureT-loop
-μ-loop store wanted at₀ at = length store - at
+μ-loop store number at₀ at = length store - at
 
 loop-holds : tie.Need-loop-holds Inv-loop μ-loop
 loop-holds c = search start
