@@ -60,7 +60,6 @@ impl Session {
     }
 }
 
-#[link(name = "firmware", kind = "static")]
 extern "C" {
     fn element_execute(
         command: *const u8,
