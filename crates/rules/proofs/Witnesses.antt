@@ -25,7 +25,7 @@ use Rattle.rules.specs.Refusals.{ill-sized}
 use Rattle.rules.specs.Step.{flushed, step}
 use Rattle.rules.specs.Run.{Turn, Kept, reply, left}
 use Rattle.rules.specs.Demand.{is-done, Ready, well-formed, writes, content-allowed, changed, MayWrite, WritesExactly, MayRead, session-byte, MayReadByte, after-byte, Shown}
-use Rattle.rules.specs.Demand.{reads-or-writes, object-of, Names, TwoLists}
+use Rattle.rules.specs.Demand.{reads-or-writes, object-of, Plain, Names, TwoLists}
 use Rattle.rules.proofs.Factory.{factory-sound}
 use Rattle.rules.proofs.Demand2.{write-exactly-when, read-exactly-when}
 use Rattle.rules.proofs.Shown.{read-only-when, byte-read-when}
@@ -178,3 +178,12 @@ two-lists = search (outside, none-common) depth 8
 -- so demand 3 holds of them
 pub mixed-lists : Mixed reply left on-F1D0 on-F1E0 in-turn taken-in-turn begun
 mixed-lists = lists-mix taken-in-turn begun two-lists
+
+-- of every two lists, no more is asked than the demand's words: each command a read or write, none that names an object of the session, none with
+-- the flush bit, and no object number named in both
+pub plain-when : (t : Turn) → reads-or-writes (t .command) ≡ true → ((n : ℕ) → object-of (t .command) ≡ some n → in-session n ≡ false) →
+    asks-flush (t .command) ≡ false → Plain t
+plain-when t r o f = search
+
+pub two-lists-when : (xs ys : List Turn) → All Plain xs → All Plain ys → ((n : ℕ) → Names xs n → Names ys n → ⊥) → TwoLists xs ys
+two-lists-when xs ys p q d = search
