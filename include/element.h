@@ -47,7 +47,7 @@ enum {
 
 /*
  * Why a command is refused. The last error takes the number if it is higher than the one that stands there, and keeps it until it is read or flushed:
- * after a refused command with ELEMENT_FLUSH it is that command's own number.
+ * after a refused command with ELEMENT_FLUSH it is exactly that command's own number. element_refusal_of tells it without the flush.
  */
 enum {
     ELEMENT_NO_ERROR = 0x00,
@@ -164,6 +164,7 @@ enum {
     ELEMENT_LARGEST_EXPRESSION = 27,
     ELEMENT_MOST_RECORDS = 32,      /* of one store; it has at least one */
     ELEMENT_RECORD_HEAD = 96,       /* what stands before the data in a record */
+    ELEMENT_SLOT = 28,              /* the place of an expression in a record: its length, the expression, zeros */
     ELEMENT_LARGEST_METADATA = 100  /* OutData of a get of metadata: 20, L and the fields */
 };
 

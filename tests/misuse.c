@@ -455,8 +455,8 @@ static void check_expression_limits(void)
 
     begin_open();
     for (size_t slot = 0; slot < 3; slot++) {
-        now.store[12 + 28 * slot] = sizeof longest;
-        memcpy(now.store + 13 + 28 * slot, longest, sizeof longest);
+        now.store[12 + ELEMENT_SLOT * slot] = sizeof longest;
+        memcpy(now.store + 13 + ELEMENT_SLOT * slot, longest, sizeof longest);
     }
     was = now;
     expect(element_check_store(now.store, STORE), "a store with three longest expressions well formed");
