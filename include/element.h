@@ -1,6 +1,9 @@
 /*
  * The secure element's object store: get, set, open and close of numbered objects, proved against its rules.
  *
+ * C99, with an int of more than 16 bits; it compiles as C++11 too. Every byte of commands, responses, metadata and the store is explained in
+ * docs/FORMATS.md.
+ *
  * Link libfirmware.a (`make library`). The library takes no memory of its own, keeps nothing between calls, and calls nothing but memset. Calls
  * on different buffers may run at the same time.
  *
@@ -22,11 +25,18 @@
 extern "C" {
 #endif
 
+/*
+ * The version of this interface: it changes with the interface. The minor number rises where something is added, the major number where a host
+ * that was written for the version before may have to be changed.
+ */
+#define ELEMENT_VERSION_MAJOR 1
+#define ELEMENT_VERSION_MINOR 0
+
 /* Outcome numbers: what a call returns. */
 enum {
     ELEMENT_ANSWERED = 0,  /* a response stands at the front of the room (or: the call did its work) */
     ELEMENT_NO_ROOM = 1,   /* the room is under 4 bytes: no response, nothing changed */
-    ELEMENT_WRONG_SIZE = 2 /* a buffer has not the size that the call needs: nothing changed */
+    ELEMENT_WRONG_SIZE = 2 /* a buffer has not the size that the call needs, or (`_checked`) is NULL: nothing changed */
 };
 
 /* The first byte of a response. */
@@ -37,7 +47,7 @@ enum {
 
 /*
  * Why a command is refused. The last error takes the number if it is higher than the one that stands there, and keeps it until it is read or flushed:
- * after a refused command with ELEMENT_FLUSH it is that command's own number.
+ * after a refused command with ELEMENT_FLUSH it is exactly that command's own number. element_refusal_of tells it without the flush.
  */
 enum {
     ELEMENT_NO_ERROR = 0x00,
@@ -61,14 +71,28 @@ enum {
     ELEMENT_TERMINATION = 0x0F
 };
 
-/* Commands: Cmd, and Param. With ELEMENT_FLUSH set in Cmd, the last error becomes 0 first. */
+/*
+ * Commands. A command is Cmd in one byte, Param in one byte, InLen in two bytes, then InLen bytes of InData. The numbers behind the names are
+ * bytes; Cmd and Param are hex.
+ *
+ *   Cmd       Param                InLen      InData                                    OutData of the response
+ *   01 get    00 data              6          object 2, offset 2, length 2              length bytes of data
+ *   01 get    01 metadata          2          object 2                                  20, L, then L bytes of fields
+ *   02 set    00 write             5 or more  object 2, offset 2, one byte or more      none
+ *   02 set    40 erase and write   5 or more  object 2, offset 2, one byte or more      none
+ *   02 set    01 metadata          4 or more  object 2, 20, L, then L bytes of fields   none
+ *   70 open   00                   16         ELEMENT_IDENTIFIER                        none
+ *   71 close  00                   0          none                                      none
+ *
+ * With ELEMENT_FLUSH set in Cmd, the last error becomes 0 first.
+ */
 enum {
     ELEMENT_GET = 0x01,
     ELEMENT_SET = 0x02,
     ELEMENT_OPEN = 0x70,
     ELEMENT_CLOSE = 0x71,
     ELEMENT_FLUSH = 0x80,
-    ELEMENT_DATA = 0x00,           /* get, set */
+    ELEMENT_DATA = 0x00,           /* get, set; open and close have the same Param */
     ELEMENT_METADATA = 0x01,       /* get, set */
     ELEMENT_ERASE_AND_WRITE = 0x40 /* set */
 };
@@ -82,6 +106,66 @@ enum {
     ELEMENT_LCSG = 0xE0C0,
     ELEMENT_LCSA = 0xF1C0,
     ELEMENT_LAST_ERROR = 0xF1C2
+};
+
+/* The objects of the factory store, and their maxima in bytes. A store may hold others. */
+enum {
+    ELEMENT_OBJECT_F1D0 = 0xF1D0,
+    ELEMENT_OBJECT_F1D1 = 0xF1D1,
+    ELEMENT_OBJECT_F1D2 = 0xF1D2,
+    ELEMENT_OBJECT_F1D3 = 0xF1D3,
+    ELEMENT_OBJECT_F1D4 = 0xF1D4,
+    ELEMENT_OBJECT_F1D5 = 0xF1D5,
+    ELEMENT_OBJECT_F1D6 = 0xF1D6,
+    ELEMENT_OBJECT_F1D7 = 0xF1D7,
+    ELEMENT_OBJECT_F1D8 = 0xF1D8,
+    ELEMENT_OBJECT_F1D9 = 0xF1D9,
+    ELEMENT_OBJECT_F1DA = 0xF1DA,
+    ELEMENT_OBJECT_F1DB = 0xF1DB,
+    ELEMENT_OBJECT_F1E0 = 0xF1E0,
+    ELEMENT_OBJECT_F1E1 = 0xF1E1,
+    ELEMENT_FACTORY_OBJECTS = 14,
+    ELEMENT_MAXIMUM_F1DX = 140, /* of each of F1D0 to F1DB */
+    ELEMENT_MAXIMUM_F1EX = 1500 /* of each of F1E0 and F1E1 */
+};
+
+/* Metadata tags. A field is its tag, its length in one byte, its value. */
+enum {
+    ELEMENT_TAG_METADATA = 0x20, /* stands in front of all fields, with the length of all of them */
+    ELEMENT_TAG_LCSO = 0xC0,     /* the object's life cycle state, 1 byte */
+    ELEMENT_TAG_MAXIMUM = 0xC4,  /* 2 bytes; only in answers */
+    ELEMENT_TAG_USED = 0xC5,     /* 2 bytes; only in answers */
+    ELEMENT_TAG_CHANGE = 0xD0,   /* an access expression, 1 to 27 bytes; so the two below */
+    ELEMENT_TAG_READ = 0xD1,
+    ELEMENT_TAG_EXECUTE = 0xD3
+};
+
+/*
+ * Access expressions: the one byte ELEMENT_ALWAYS, the one byte ELEMENT_NEVER, or conditions joined by ELEMENT_AND and ELEMENT_OR; and binds
+ * first. A condition is three bytes: whose state, how it is compared, a life cycle state.
+ */
+enum {
+    ELEMENT_ALWAYS = 0x00,
+    ELEMENT_NEVER = 0xFF,
+    ELEMENT_CONDITION_LCSG = 0x70,
+    ELEMENT_CONDITION_LCSA = 0xE0,
+    ELEMENT_CONDITION_LCSO = 0xE1,
+    ELEMENT_EQUAL = 0xFA,
+    ELEMENT_GREATER = 0xFB,
+    ELEMENT_LESS = 0xFC,
+    ELEMENT_AND = 0xFD,
+    ELEMENT_OR = 0xFE
+};
+
+/* Limits of access expressions and of the store. */
+enum {
+    ELEMENT_MOST_CONDITIONS = 7,    /* of one expression */
+    ELEMENT_MOST_GROUPS = 3,        /* of one expression; a group is a condition, or conditions joined by and */
+    ELEMENT_LARGEST_EXPRESSION = 27,
+    ELEMENT_MOST_RECORDS = 32,      /* of one store; it has at least one */
+    ELEMENT_RECORD_HEAD = 96,       /* what stands before the data in a record */
+    ELEMENT_SLOT = 28,              /* the place of an expression in a record: its length, the expression, zeros */
+    ELEMENT_LARGEST_METADATA = 100  /* OutData of a get of metadata: 20, L and the fields */
 };
 
 /* Sizes, in bytes. */
@@ -140,9 +224,37 @@ uint8_t element_make_factory_store(uint8_t *store, size_t store_len);
 element_session element_fresh_session(void);
 
 /*
- * The same for pointers that may be NULL, whatever their length. A NULL session, or a NULL room of element_execute_checked, is
- * ELEMENT_NO_ROOM; any other NULL with a length above 0 is ELEMENT_WRONG_SIZE. Then nothing is changed. A NULL store is not well formed, and
- * too small for the factory's.
+ * Whether a command was done: the call answered, and the status is 00. `outcome` is what element_execute returned, or what element_run put into
+ * outcomes[i]; `room` is the room of that command, as the call left it. The room is looked at only where a response stands.
+ */
+static inline bool element_is_done(uint8_t outcome, const uint8_t *room)
+{
+    return outcome == ELEMENT_ANSWERED && room[0] == ELEMENT_STATUS_DONE;
+}
+
+/*
+ * The own number of the command that element_execute has just refused, where the last error may hold a higher one. Give it what that call was
+ * given, with session, store and room as the call left them. Returns ELEMENT_NO_ERROR, and does nothing, if no refusal stands in the room.
+ *
+ * It carries the command out once more on a copy of the session with a last error of 0. No step that judges a command looks at the last error,
+ * and the refusal changed nothing else: so the command is refused again with the same number (theorem refused-again), and that number is then
+ * the last error of the copy (theorem its-number; both in crates/rules/proofs/Resent.antt). Session, store and room stay as they are.
+ */
+static inline uint8_t element_refusal_of(const uint8_t *command, size_t command_len, uint8_t *store, size_t store_len, const element_session *session, uint8_t *room, size_t room_len)
+{
+    element_session again = *session;
+    if (room_len < ELEMENT_LEAST_ROOM || room[0] != ELEMENT_STATUS_REFUSED)
+        return ELEMENT_NO_ERROR;
+    again.error = ELEMENT_NO_ERROR;
+    element_execute(command, command_len, store, store_len, &again, room, room_len);
+    return again.error;
+}
+
+/*
+ * The same functions for pointers that may be NULL. A NULL session is ELEMENT_WRONG_SIZE, and so is any other NULL with a length above 0; it is
+ * looked for before anything else, and nothing is changed. A NULL with length 0 is an empty buffer: a NULL room with room_len 0 has no room for
+ * a status and is ELEMENT_NO_ROOM, as every room under 4 bytes is in element_execute. A NULL store is not well formed, and too small for the
+ * factory's.
  */
 static inline bool element_missing(const void *buffer, size_t length)
 {
@@ -151,18 +263,14 @@ static inline bool element_missing(const void *buffer, size_t length)
 
 static inline uint8_t element_execute_checked(const uint8_t *command, size_t command_len, uint8_t *store, size_t store_len, element_session *session, uint8_t *room, size_t room_len)
 {
-    if (session == NULL || room == NULL)
-        return ELEMENT_NO_ROOM;
-    if (element_missing(command, command_len) || element_missing(store, store_len))
+    if (session == NULL || element_missing(command, command_len) || element_missing(store, store_len) || element_missing(room, room_len))
         return ELEMENT_WRONG_SIZE;
     return element_execute(command, command_len, store, store_len, session, room, room_len);
 }
 
 static inline uint8_t element_run_checked(const uint8_t *commands, size_t commands_len, const size_t *sizes, size_t sizes_count, uint8_t *store, size_t store_len, element_session *session, uint8_t *rooms, size_t rooms_len, const size_t *spaces, size_t spaces_count, uint8_t *outcomes, size_t outcomes_count)
 {
-    if (session == NULL)
-        return ELEMENT_NO_ROOM;
-    if (element_missing(commands, commands_len) || element_missing(sizes, sizes_count) || element_missing(store, store_len) || element_missing(rooms, rooms_len) || element_missing(spaces, spaces_count) || element_missing(outcomes, outcomes_count))
+    if (session == NULL || element_missing(commands, commands_len) || element_missing(sizes, sizes_count) || element_missing(store, store_len) || element_missing(rooms, rooms_len) || element_missing(spaces, spaces_count) || element_missing(outcomes, outcomes_count))
         return ELEMENT_WRONG_SIZE;
     return element_run(commands, commands_len, sizes, sizes_count, store, store_len, session, rooms, rooms_len, spaces, spaces_count, outcomes, outcomes_count);
 }

@@ -1,5 +1,6 @@
 /*
- * Every misuse of the C interface that its types allow, each with the answer that include/element.h and document 01 give, written by hand.
+ * Every misuse of the C interface that its types allow, each with the answer that include/element.h and docs/FORMATS.md give, written by hand;
+ * then the header's helpers and constants.
  * Prints the number of checks; at the first that fails, what was expected, and exits 1.
  *
  *   gcc -std=c99 -O2 -Iinclude tests/misuse.c target/staticlib/libfirmware.a -o misuse
@@ -200,13 +201,25 @@ static void check_null_with_length(void)
     expect(checked(NULL, SIZE_MAX, now.store, &now.session, now.room) == 2 && unchanged(),
         "outcome 2 and nothing changed for a NULL command of SIZE_MAX bytes");
     expect(checked(flushed, length, NULL, &now.session, now.room) == 2 && unchanged(), "outcome 2 and nothing changed for a NULL store");
-    expect(checked(flushed, length, now.store, NULL, now.room) == 1 && unchanged(), "outcome 1 and nothing changed for a NULL session");
-    expect(checked(flushed, length, now.store, &now.session, NULL) == 1 && unchanged(), "outcome 1 and nothing changed for a NULL room");
-    expect(checked(NULL, length, NULL, NULL, NULL) == 1 && unchanged(), "outcome 1 and nothing changed for NULL everywhere");
-    expect(checked(NULL, length, now.store, &now.session, NULL) == 1 && unchanged(),
-        "outcome 1 for a NULL room before 2 for a NULL command");
+    expect(checked(flushed, length, now.store, NULL, now.room) == 2 && unchanged(), "outcome 2 and nothing changed for a NULL session");
+    expect(checked(flushed, length, now.store, &now.session, NULL) == 2 && unchanged(), "outcome 2 and nothing changed for a NULL room");
+    expect(checked(NULL, length, NULL, NULL, NULL) == 2 && unchanged(), "outcome 2 and nothing changed for NULL everywhere");
+    for (size_t room = 1; room <= ELEMENT_LEAST_ROOM; room++)
+        expect(element_execute_checked(flushed, length, now.store, STORE, &now.session, NULL, room) == 2 && unchanged(),
+            "outcome 2 and nothing changed for a NULL room of %zu", room);
+
     expect(element_execute_checked(flushed, length, now.store, STORE, &now.session, NULL, 0) == 1 && unchanged(),
         "outcome 1 and nothing changed for a NULL room of no bytes");
+    expect(element_execute_checked(NULL, length, now.store, STORE, &now.session, NULL, 0) == 2 && unchanged(),
+        "outcome 2 for a NULL command before 1 for a NULL room of no bytes");
+    expect(element_execute_checked(flushed, length, NULL, STORE, &now.session, NULL, 0) == 2 && unchanged(),
+        "outcome 2 for a NULL store before 1 for a NULL room of no bytes");
+    expect(element_execute_checked(flushed, length, now.store, STORE, NULL, NULL, 0) == 2 && unchanged(),
+        "outcome 2 for a NULL session before 1 for a NULL room of no bytes");
+    expect(element_execute_checked(flushed, length, now.store, STORE, NULL, now.room, 3) == 2 && unchanged(),
+        "outcome 2 for a NULL session before 1 for a room of 3");
+    expect(element_execute_checked(flushed, length, now.store, STORE, &now.session, now.room, 3) == 1 && unchanged(),
+        "outcome 1 and nothing changed for a room of 3, checked");
 
     expect(checked(NULL, 0, now.store, &now.session, now.room) == 0 && refused(0x04), "refusal 04 for no command at NULL, checked");
     begin_open();
@@ -242,16 +255,18 @@ static void check_null_lists_with_length(void)
         "outcome 2 and nothing changed for a list with NULL sizes");
     expect(run_checked(list, ONE_SIZE, NULL, &now.session, now.room, ONE_SPACE, now.outcomes) == 2 && unchanged(),
         "outcome 2 and nothing changed for a list on a NULL store");
-    expect(run_checked(list, ONE_SIZE, now.store, NULL, now.room, ONE_SPACE, now.outcomes) == 1 && unchanged(),
-        "outcome 1 and nothing changed for a list on a NULL session");
+    expect(run_checked(list, ONE_SIZE, now.store, NULL, now.room, ONE_SPACE, now.outcomes) == 2 && unchanged(),
+        "outcome 2 and nothing changed for a list on a NULL session");
     expect(run_checked(list, ONE_SIZE, now.store, &now.session, NULL, ONE_SPACE, now.outcomes) == 2 && unchanged(),
         "outcome 2 and nothing changed for a list with NULL rooms");
     expect(run_checked(list, ONE_SIZE, now.store, &now.session, now.room, NULL, now.outcomes) == 2 && unchanged(),
         "outcome 2 and nothing changed for a list with NULL spaces");
     expect(run_checked(list, ONE_SIZE, now.store, &now.session, now.room, ONE_SPACE, NULL) == 2 && unchanged(),
         "outcome 2 and nothing changed for a list with NULL outcomes");
-    expect(run_checked(NULL, NULL, NULL, NULL, NULL, NULL, NULL) == 1 && unchanged(),
-        "outcome 1 and nothing changed for a list with NULL everywhere");
+    expect(run_checked(NULL, NULL, NULL, NULL, NULL, NULL, NULL) == 2 && unchanged(),
+        "outcome 2 and nothing changed for a list with NULL everywhere");
+    expect(element_run_checked(NULL, 0, NULL, 0, NULL, 0, NULL, NULL, 0, NULL, 0, NULL, 0) == 2 && unchanged(),
+        "outcome 2 for a NULL session with a list of nothing");
     expect(run_checked(list, ONE_SIZE, now.store, &now.session, now.room, ONE_SPACE, now.outcomes) == 0,
         "outcome 0 for a list of one, checked");
     was.outcomes[0] = 0;
@@ -259,6 +274,199 @@ static void check_null_lists_with_length(void)
     begin_open();
     expect(element_run_checked(NULL, 0, NULL, 0, NULL, 0, &now.session, NULL, 0, NULL, 0, NULL, 0) == 0 && unchanged(),
         "outcome 0 and nothing changed for a list of nothing, checked");
+}
+
+/* Whether a command was done, and a refused one's own number. */
+
+static void check_is_done(void)
+{
+    begin_open();
+    expect(element_is_done(execute(METADATA, sizeof METADATA, ROOM), now.room), "a get that is answered is done");
+    begin_open();
+    expect(!element_is_done(execute(NO_OBJECT, sizeof NO_OBJECT, ROOM), now.room), "a refused get is not done");
+    begin_open();
+    now.room[0] = ELEMENT_STATUS_DONE;
+    expect(!element_is_done(execute(METADATA, sizeof METADATA, 3), now.room), "outcome 1 is not done, whatever stands in the room");
+    expect(!element_is_done(element_execute(METADATA, sizeof METADATA, now.store, STORE, &now.session, NULL, 0), NULL),
+        "outcome 1 with no room at NULL is not done");
+    expect(!element_is_done(ELEMENT_WRONG_SIZE, now.room) && !element_is_done(ELEMENT_WRONG_SIZE, NULL), "outcome 2 is not done");
+}
+
+static uint8_t refusal_of(const uint8_t *command, size_t length, size_t room)
+{
+    return element_refusal_of(command, length, now.store, STORE, &now.session, now.room, room);
+}
+
+/* The command is refused with this number, whatever the last error and with the flush bit too; asking for the number changes nothing. */
+static void check_own_number(uint8_t number, const uint8_t *command, size_t length, size_t room, uint8_t opened, uint8_t lcsa)
+{
+    uint8_t flushing[32];
+    for (unsigned error = 0; error < 256; error++) {
+        begin(opened, 1, lcsa, (uint8_t)error);
+        expect(execute(command, length, room) == 0 && refused(larger((uint8_t)error, number)),
+            "refusal %02X with the last error %02X", number, error);
+        expect(refusal_of(command, length, room) == number && unchanged(),
+            "the number %02X and nothing changed with the last error %02X", number, error);
+    }
+    if (length == 0)
+        return;
+    memcpy(flushing, command, length);
+    flushing[0] |= ELEMENT_FLUSH;
+    begin(opened, 1, lcsa, 0xFF);
+    expect(execute(flushing, length, room) == 0 && refused(number), "the last error %02X after a refused command with the flush bit", number);
+    expect(refusal_of(flushing, length, room) == number && unchanged(),
+        "the number %02X and nothing changed for a command with the flush bit", number);
+}
+
+static void check_own_numbers(void)
+{
+    static const uint8_t no_param[] = {0x01, 0x02, 0x00, 0x02, 0xF1, 0xD0};
+    static const uint8_t bad_tag[] = {0x02, 0x01, 0x00, 0x07, 0xF1, 0xD0, 0x20, 0x03, 0xC1, 0x01, 0x07};
+    static const uint8_t write_error[] = {0x02, 0x00, 0x00, 0x05, 0xF1, 0xC2, 0x00, 0x00, 0x00};
+    static const uint8_t no_cmd[] = {0x05, 0x00, 0x00, 0x00};
+    check_own_number(ELEMENT_INVALID_OBJECT, NO_OBJECT, sizeof NO_OBJECT, ROOM, 1, 1);
+    check_own_number(ELEMENT_INVALID_PARAM, no_param, sizeof no_param, ROOM, 1, 1);
+    check_own_number(ELEMENT_INVALID_LENGTH, NULL, 0, ROOM, 1, 1);
+    check_own_number(ELEMENT_INVALID_LENGTH, METADATA, sizeof METADATA - 1, ROOM, 1, 1);
+    check_own_number(ELEMENT_INVALID_DATA, OPEN_OTHER, sizeof OPEN_OTHER, ROOM, 0, 1);
+    check_own_number(ELEMENT_INVALID_DATA, bad_tag, sizeof bad_tag, ROOM, 1, 1);
+    check_own_number(ELEMENT_INTERNAL_ERROR, METADATA, sizeof METADATA, ROOM, 1, 2);
+    check_own_number(ELEMENT_ACCESS_DENIED, write_error, sizeof write_error, ROOM, 1, 1);
+    check_own_number(ELEMENT_BOUNDARY_EXCEEDED, WRITE_PAST, sizeof WRITE_PAST, ROOM, 1, 1);
+    check_own_number(ELEMENT_INVALID_COMMAND, no_cmd, sizeof no_cmd, ROOM, 1, 1);
+    check_own_number(ELEMENT_NOT_AVAILABLE, METADATA, sizeof METADATA, ROOM, 0x2A, ELEMENT_TERMINATION);
+    check_own_number(ELEMENT_NOT_AVAILABLE, CLOSE, sizeof CLOSE, ROOM, 0, 1);
+    check_own_number(ELEMENT_INSUFFICIENT_BUFFER, METADATA, sizeof METADATA, ELEMENT_LEAST_ROOM, 1, 1);
+    check_own_number(ELEMENT_INSUFFICIENT_BUFFER, READ_ERROR, sizeof READ_ERROR, ELEMENT_LEAST_ROOM, 1, 1);
+}
+
+/* A command that was not refused has no number, and is not carried out again. */
+static void check_no_number(void)
+{
+    begin_open();
+    expect(execute(WRITE, sizeof WRITE, ROOM) == 0, "outcome 0 for a write");
+    was = now;
+    now.store[96] = was.store[96] = 0x55;
+    expect(refusal_of(WRITE, sizeof WRITE, ROOM) == 0 && unchanged(), "number 0 and no second write for a write that is done");
+    begin_open();
+    now.room[0] = was.room[0] = ELEMENT_STATUS_REFUSED;
+    for (size_t room = 0; room < ELEMENT_LEAST_ROOM; room++)
+        expect(execute(WRITE, sizeof WRITE, room) == 1 && refusal_of(WRITE, sizeof WRITE, room) == 0 && unchanged(),
+            "number 0 and nothing changed with a room of %zu", room);
+    expect(element_refusal_of(WRITE, sizeof WRITE, now.store, STORE, &now.session, NULL, 0) == 0 && unchanged(),
+        "number 0 and nothing changed with no room at NULL");
+}
+
+/* The header's constants, as bytes and by what the library does with them. */
+
+static void check_constants(void)
+{
+    static const uint8_t tags[] = {
+        ELEMENT_TAG_METADATA, ELEMENT_TAG_LCSO, ELEMENT_TAG_MAXIMUM, ELEMENT_TAG_USED, ELEMENT_TAG_CHANGE, ELEMENT_TAG_READ, ELEMENT_TAG_EXECUTE
+    };
+    static const uint8_t expressions[] = {
+        ELEMENT_ALWAYS, ELEMENT_CONDITION_LCSG, ELEMENT_CONDITION_LCSA, ELEMENT_CONDITION_LCSO, ELEMENT_EQUAL, ELEMENT_GREATER, ELEMENT_LESS,
+        ELEMENT_AND, ELEMENT_OR, ELEMENT_NEVER
+    };
+    expect(ELEMENT_VERSION_MAJOR == 1 && ELEMENT_VERSION_MINOR == 0, "version 1.0");
+    expect(memcmp(tags, "\x20\xC0\xC4\xC5\xD0\xD1\xD3", sizeof tags) == 0, "the metadata tags");
+    expect(memcmp(expressions, "\x00\x70\xE0\xE1\xFA\xFB\xFC\xFD\xFE\xFF", sizeof expressions) == 0, "the bytes of expressions");
+    expect(ELEMENT_MAXIMUM_F1DX == 140 && ELEMENT_MAXIMUM_F1EX == 1500 && ELEMENT_FACTORY_OBJECTS == 14, "the factory's sizes");
+}
+
+static void check_factory_objects(void)
+{
+    static const unsigned numbers[ELEMENT_FACTORY_OBJECTS] = {
+        ELEMENT_OBJECT_F1D0, ELEMENT_OBJECT_F1D1, ELEMENT_OBJECT_F1D2, ELEMENT_OBJECT_F1D3, ELEMENT_OBJECT_F1D4, ELEMENT_OBJECT_F1D5,
+        ELEMENT_OBJECT_F1D6, ELEMENT_OBJECT_F1D7, ELEMENT_OBJECT_F1D8, ELEMENT_OBJECT_F1D9, ELEMENT_OBJECT_F1DA, ELEMENT_OBJECT_F1DB,
+        ELEMENT_OBJECT_F1E0, ELEMENT_OBJECT_F1E1
+    };
+    size_t at = 0;
+    for (size_t i = 0; i < ELEMENT_FACTORY_OBJECTS; i++) {
+        const unsigned maximum = i < 12 ? ELEMENT_MAXIMUM_F1DX : ELEMENT_MAXIMUM_F1EX;
+        const uint8_t get[] = {ELEMENT_GET, ELEMENT_METADATA, 0x00, 0x02, (uint8_t)(numbers[i] >> 8), (uint8_t)numbers[i]};
+        const uint8_t answer[METADATA_SIZE] = {
+            ELEMENT_STATUS_DONE, 0x00, 0x00, 0x18, ELEMENT_TAG_METADATA, 0x16,
+            ELEMENT_TAG_LCSO, 0x01, ELEMENT_CREATION,
+            ELEMENT_TAG_MAXIMUM, 0x02, (uint8_t)(maximum >> 8), (uint8_t)maximum,
+            ELEMENT_TAG_USED, 0x02, 0x00, 0x00,
+            ELEMENT_TAG_CHANGE, 0x03, ELEMENT_CONDITION_LCSO, ELEMENT_LESS, ELEMENT_OPERATIONAL,
+            ELEMENT_TAG_READ, 0x01, ELEMENT_ALWAYS,
+            ELEMENT_TAG_EXECUTE, 0x01, ELEMENT_ALWAYS
+        };
+        begin_open();
+        expect(execute(get, sizeof get, ROOM) == 0 && left(answer, sizeof answer, 1, OLD_ERROR), "the factory metadata of %04X", numbers[i]);
+        expect(now.store[at + 4] == (uint8_t)numbers[i] && now.store[at + 5] == numbers[i] >> 8, "the record of %04X at %zu", numbers[i], at);
+        at += ELEMENT_RECORD_HEAD + maximum;
+    }
+    expect(at == ELEMENT_FACTORY_STORE_SIZE, "the factory store filled by fourteen records");
+}
+
+/* The longest expression, in the largest metadata: 7 conditions in 3 groups. One condition or one group more is refused 05. */
+
+/* puts n conditions at the place, the last `ors` of their joins or, all others and; returns the bytes put */
+static size_t put_conditions(uint8_t *place, size_t n, size_t ors)
+{
+    static const uint8_t of[] = {ELEMENT_CONDITION_LCSG, ELEMENT_CONDITION_LCSA, ELEMENT_CONDITION_LCSO};
+    static const uint8_t how[] = {ELEMENT_EQUAL, ELEMENT_GREATER, ELEMENT_LESS};
+    size_t at = 0;
+    for (size_t i = 0; i < n; i++) {
+        if (i != 0)
+            place[at++] = i + ors < n ? ELEMENT_AND : ELEMENT_OR;
+        place[at++] = of[i % 3];
+        place[at++] = how[i / 3 % 3];
+        place[at++] = ELEMENT_INITIALISATION;
+    }
+    return at;
+}
+
+/* a set of D1 of F1D0 */
+static size_t make_set_read(uint8_t *command, size_t n, size_t ors)
+{
+    size_t length = put_conditions(command + 10, n, ors);
+    const uint8_t front[] = {
+        ELEMENT_SET, ELEMENT_METADATA, 0x00, (uint8_t)(6 + length), 0xF1, 0xD0,
+        ELEMENT_TAG_METADATA, (uint8_t)(2 + length), ELEMENT_TAG_READ, (uint8_t)length
+    };
+    memcpy(command, front, sizeof front);
+    return sizeof front + length;
+}
+
+static void check_expression_limits(void)
+{
+    uint8_t command[64];
+    uint8_t longest[ELEMENT_LARGEST_EXPRESSION];
+    uint8_t largest[ELEMENT_HEADER + ELEMENT_LARGEST_METADATA];
+    size_t length;
+
+    begin_open();
+    length = make_set_read(command, ELEMENT_MOST_CONDITIONS, ELEMENT_MOST_GROUPS - 1);
+    expect(length == 10 + ELEMENT_LARGEST_EXPRESSION, "7 conditions take 27 bytes");
+    memcpy(longest, command + 10, sizeof longest);
+    expect(element_is_done(execute(command, length, ROOM), now.room), "7 conditions in 3 groups taken");
+    expect(now.store[40] == sizeof longest && memcmp(now.store + 41, longest, sizeof longest) == 0, "7 conditions in the slot for read");
+
+    begin_open();
+    length = make_set_read(command, ELEMENT_MOST_CONDITIONS + 1, 0);
+    expect(execute(command, length, ROOM) == 0 && refused(0x05), "refusal 05 for 8 conditions");
+    begin_open();
+    length = make_set_read(command, ELEMENT_MOST_GROUPS + 1, ELEMENT_MOST_GROUPS);
+    expect(execute(command, length, ROOM) == 0 && refused(0x05), "refusal 05 for 4 groups");
+
+    begin_open();
+    for (size_t slot = 0; slot < 3; slot++) {
+        now.store[12 + ELEMENT_SLOT * slot] = sizeof longest;
+        memcpy(now.store + 13 + ELEMENT_SLOT * slot, longest, sizeof longest);
+    }
+    was = now;
+    expect(element_check_store(now.store, STORE), "a store with three longest expressions well formed");
+    memset(largest, FILL, sizeof largest);
+    expect(element_execute(METADATA, sizeof METADATA, now.store, STORE, &now.session, largest, sizeof largest - 1) == 0
+            && memcmp(largest, REFUSED, 4) == 0 && now.session.error == 0x0D,
+        "refusal 0D for the largest metadata with a byte of room too few");
+    expect(element_is_done(element_execute(METADATA, sizeof METADATA, now.store, STORE, &now.session, largest, sizeof largest), largest),
+        "the largest metadata fits");
+    expect(largest[3] == ELEMENT_LARGEST_METADATA && largest[5] == ELEMENT_LARGEST_METADATA - 2, "the largest metadata is 100 bytes");
 }
 
 /* Rooms of 0 to 3 bytes. */
@@ -545,8 +753,8 @@ static void check_large_stores(void)
     static const struct { size_t count, maximum; bool formed; } stores[] = {
         {32, 416, true},  /* 16,384 bytes */
         {31, 433, false}, /* 16,399 bytes */
-        {32, 1, true},
-        {33, 1, false},
+        {ELEMENT_MOST_RECORDS, 1, true},
+        {ELEMENT_MOST_RECORDS + 1, 1, false},
         {1, 1500, true},
         {1, 1501, false},
         {1, 0, false}
@@ -711,6 +919,12 @@ int main(void)
     check_null_lists();
     check_null_with_length();
     check_null_lists_with_length();
+    check_is_done();
+    check_own_numbers();
+    check_no_number();
+    check_constants();
+    check_factory_objects();
+    check_expression_limits();
     check_small_rooms();
     check_large_room();
     check_opened();
