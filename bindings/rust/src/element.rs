@@ -111,10 +111,9 @@ impl<'a> Element<'a> {
         length: Length,
         room: &'r mut [u8],
     ) -> Result<&'r [u8], Error> {
-        let [o, p] = object.0.to_be_bytes();
-        let [q, r] = offset.0.to_be_bytes();
-        let [s, t] = length.0.to_be_bytes();
-        self.carry_out(&[GET, DATA, 0, 6, o, p, q, r, s, t], room)
+        let [object, offset, length] = [object.0, offset.0, length.0].map(u16::to_be_bytes);
+        let command = [[GET, DATA], [0, 6], object, offset, length];
+        self.carry_out(command.as_flattened(), room)
     }
 
     /// Writes bytes at an offset of an object. A full object refuses and keeps what it has.
@@ -162,8 +161,8 @@ impl<'a> Element<'a> {
         object: ObjectNumber,
         room: &'r mut [u8],
     ) -> Result<&'r [u8], Error> {
-        let [high, low] = object.0.to_be_bytes();
-        let answer = self.carry_out(&[GET, METADATA, 0, 2, high, low], room)?;
+        let command = [[GET, METADATA], [0, 2], object.0.to_be_bytes()];
+        let answer = self.carry_out(command.as_flattened(), room)?;
         Ok(answer.get(2..).unwrap_or(&[]))
     }
 
@@ -312,27 +311,11 @@ fn set<'s>(
         return Err(Error::WrongSize);
     }
     let command = scratch.get_mut(..length).ok_or(Error::WrongSize)?;
-    let (lead, rest) = command.split_first_chunk_mut().ok_or(Error::WrongSize)?;
-    *lead = set_lead(param, object, between, length);
+    let (lead, rest) = command.split_at_mut_checked(LEAD).ok_or(Error::WrongSize)?;
+    let [in_len, object] = [(length - HEADER) as u16, object.0].map(u16::to_be_bytes);
+    lead.copy_from_slice([[SET, param], in_len, object, between].as_flattened());
     rest.copy_from_slice(written);
     Ok(command)
-}
-
-/// What a set command of this length begins with.
-fn set_lead(param: u8, object: ObjectNumber, between: [u8; 2], length: usize) -> [u8; LEAD] {
-    let [in_high, in_low] = ((length - HEADER) as u16).to_be_bytes();
-    let [object_high, object_low] = object.0.to_be_bytes();
-    let [first, second] = between;
-    [
-        SET,
-        param,
-        in_high,
-        in_low,
-        object_high,
-        object_low,
-        first,
-        second,
-    ]
 }
 
 #[cfg(test)]
