@@ -1,7 +1,7 @@
-//! A host of the secure element in Rust, over the safe interface in element.rs.
+//! A host of the secure element in Rust, over the crate `element`.
 //!
-//!   rustc --edition 2021 -O --crate-type rlib -L native=target/staticlib examples/element.rs -o target/libelement.rlib
-//!   rustc --edition 2021 -O --extern element=target/libelement.rlib examples/host.rs -o target/host_rs
+//!   make library
+//!   cargo build --release --manifest-path bindings/rust/Cargo.toml --example host     # bindings/rust/target/release/examples/host
 //!
 //! usage: host          a list of commands on standard input, a line for each, as the program `bench` prints them
 //!        host demo     a fare's story by typed calls; exits 1 at the first answer that is not the expected one
@@ -11,14 +11,17 @@ use std::io::{self, BufWriter, Read, Write};
 use std::process::ExitCode;
 
 use element::{
-    Answer, Element, Error, Length, ObjectNumber, Offset, Refusal, Session, FACTORY_STORE_SIZE,
-    LARGEST_ROOM, OPERATIONAL,
+    tag, Answer, Element, Error, Length, ObjectNumber, Offset, Refusal, Session,
+    FACTORY_STORE_SIZE, LARGEST_COMMAND, LARGEST_ROOM, LEAD, OPERATIONAL,
 };
 
 const LONGEST_LIST: usize = 16_384;
 
 /// The first fare object: 140 bytes, written only below operational.
 const FARES: ObjectNumber = ObjectNumber(0xF1D0);
+
+/// What a write of one fare needs.
+const SCRATCH: usize = LEAD + 8;
 
 fn main() -> ExitCode {
     let mut output = BufWriter::new(io::stdout().lock());
@@ -127,17 +130,18 @@ fn run_demo(output: &mut impl Write) -> io::Result<()> {
 
 fn tell_fare(element: &mut Element, output: &mut impl Write) -> io::Result<()> {
     let mut room = [0; LARGEST_ROOM];
-    let early = no_data(element.write(FARES, Offset(0), b"FARE 001"));
+    let mut scratch = [0; SCRATCH];
+    let early = no_data(element.write(FARES, Offset(0), b"FARE 001", &mut scratch));
     let closed = Err(Error::Refused(Refusal::NotAvailable));
     tell(output, "write before opening", early, closed)?;
     tell(output, "open", no_data(element.open()), Ok(&[]))?;
-    let written = no_data(element.write(FARES, Offset(0), b"FARE 001"));
+    let written = no_data(element.write(FARES, Offset(0), b"FARE 001", &mut scratch));
     tell(output, "write 8 bytes at 0 of F1D0", written, Ok(&[]))?;
     let read = element.read(FARES, Offset(0), Length(8), &mut room);
     tell(output, "read them", read, Ok(b"FARE 001"))?;
-    let last = no_data(element.write(FARES, Offset(132), b"FARE 018"));
+    let last = no_data(element.write(FARES, Offset(132), b"FARE 018", &mut scratch));
     tell(output, "write 8 bytes at 132 of 140", last, Ok(&[]))?;
-    let past = no_data(element.write(FARES, Offset(133), b"FARE 019"));
+    let past = no_data(element.write(FARES, Offset(133), b"FARE 019", &mut scratch));
     let full = Err(Error::Refused(Refusal::BoundaryExceeded));
     tell(output, "write 8 bytes at 133 of 140", past, full)?;
     let read = element.read(FARES, Offset(132), Length(8), &mut room);
@@ -146,16 +150,17 @@ fn tell_fare(element: &mut Element, output: &mut impl Write) -> io::Result<()> {
 
 fn tell_service(element: &mut Element, output: &mut impl Write) -> io::Result<()> {
     let mut room = [0; LARGEST_ROOM];
-    let set = no_data(element.set_metadata(FARES, &[0xC0, 1, OPERATIONAL]));
+    let mut scratch = [0; SCRATCH];
+    let set = no_data(element.set_metadata(FARES, &[tag::LCSO, 1, OPERATIONAL], &mut scratch));
     tell(output, "set LcsO of F1D0 to operational", set, Ok(&[]))?;
     let fields =
         b"\xC0\x01\x07\xC4\x02\x00\x8C\xC5\x02\x00\x8C\xD0\x03\xE1\xFC\x07\xD1\x01\x00\xD3\x01\x00";
     let metadata = element.metadata(FARES, &mut room);
     tell(output, "metadata of F1D0", metadata, Ok(fields))?;
-    let late = no_data(element.write(FARES, Offset(0), b"FARE 020"));
+    let late = no_data(element.write(FARES, Offset(0), b"FARE 020", &mut scratch));
     let denied = Err(Error::Refused(Refusal::AccessDenied));
     tell(output, "write 8 bytes at 0", late, denied)?;
-    let late = no_data(element.erase_and_write(FARES, Offset(0), b"FARE 020"));
+    let late = no_data(element.erase_and_write(FARES, Offset(0), b"FARE 020", &mut scratch));
     tell(output, "erase and write 8 bytes at 0", late, denied)?;
     let read = element.read(FARES, Offset(0), Length(8), &mut room);
     tell(output, "read at 0", read, Ok(b"FARE 001"))
@@ -163,9 +168,12 @@ fn tell_service(element: &mut Element, output: &mut impl Write) -> io::Result<()
 
 fn tell_errors(element: &mut Element, output: &mut impl Write) -> io::Result<()> {
     let mut room = [0; LARGEST_ROOM];
-    let long = no_data(element.write(FARES, Offset(0), &[0; 1550]));
+    let mut scratch = [0; LARGEST_COMMAND + 1];
     let wrong = Err(Error::WrongSize);
+    let long = no_data(element.write(FARES, Offset(0), &[0; 1550], &mut scratch));
     tell(output, "write 1,550 bytes", long, wrong)?;
+    let narrow = no_data(element.write(FARES, Offset(0), b"FARE", &mut scratch[..11]));
+    tell(output, "write 4 bytes by a scratch of 11", narrow, wrong)?;
     let error = element.read(ObjectNumber::LAST_ERROR, Offset(0), Length(1), &mut room);
     tell(output, "the last error, the highest", error, Ok(&[0x0C]))?;
     let error = element.read(ObjectNumber::LAST_ERROR, Offset(0), Length(1), &mut room);

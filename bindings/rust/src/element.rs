@@ -1,0 +1,373 @@
+use crate::command::{CLOSE, DATA, ERASE_AND_WRITE, GET, IDENTIFIER, METADATA, OPEN, REFUSED, SET};
+use crate::library::{self, List, ANSWERED};
+use crate::{tag, Error, Refusal, Session, HEADER, LARGEST_COMMAND, LEAD};
+
+/// The number that names an object.
+#[derive(Clone, Copy, Debug, PartialEq, Eq, PartialOrd, Ord, Hash)]
+pub struct ObjectNumber(pub u16);
+
+impl ObjectNumber {
+    /// LcsG, one byte that lives in the session.
+    pub const LCSG: ObjectNumber = ObjectNumber(0xE0C0);
+    /// LcsA, one byte that lives in the session.
+    pub const LCSA: ObjectNumber = ObjectNumber(0xF1C0);
+    /// The last error, one byte that lives in the session; a read sets it to 0.
+    pub const LAST_ERROR: ObjectNumber = ObjectNumber(0xF1C2);
+}
+
+/// A place in an object's data.
+#[derive(Clone, Copy, Debug, PartialEq, Eq, PartialOrd, Ord, Hash)]
+pub struct Offset(pub u16);
+
+/// How many bytes to read.
+#[derive(Clone, Copy, Debug, PartialEq, Eq, PartialOrd, Ord, Hash)]
+pub struct Length(pub u16);
+
+/// What came of a command sent as bytes.
+#[derive(Clone, Copy, Debug, PartialEq, Eq)]
+pub struct Answer<'r> {
+    /// 0 where a response stands, 1 where the room is under 4 bytes.
+    pub outcome: u8,
+    /// Status, 00, OutLen and OutData; empty where none stands.
+    pub response: &'r [u8],
+}
+
+/// The element: a store and a session that the host keeps and lends.
+///
+/// Calls by type ([`open`](Element::open), [`read`](Element::read), [`write`](Element::write), ..) answer with the data, or with an [`Error`]
+/// that holds the refusal's own number. What a write sends is put together in a scratch that the host lends: [`LEAD`] bytes more than what is
+/// written; [`LARGEST_COMMAND`] bytes are enough for every write.
+#[derive(Debug)]
+pub struct Element<'a> {
+    store: &'a mut [u8],
+    session: &'a mut Session,
+}
+
+impl<'a> Element<'a> {
+    /// Goes on with a store and a session. Every command on a malformed store is refused: see [`check_store`](Element::check_store).
+    pub fn new(store: &'a mut [u8], session: &'a mut Session) -> Element<'a> {
+        Element { store, session }
+    }
+
+    /// A new element: fills the store with the factory's objects and makes the session fresh.
+    ///
+    /// [`Error::WrongSize`] where the store has not [`FACTORY_STORE_SIZE`](crate::FACTORY_STORE_SIZE) bytes.
+    pub fn factory(store: &'a mut [u8], session: &'a mut Session) -> Result<Element<'a>, Error> {
+        if library::make_factory_store(store) != ANSWERED {
+            return Err(Error::WrongSize);
+        }
+        *session = Session::fresh();
+        Ok(Element { store, session })
+    }
+
+    /// Whether the store is well formed.
+    pub fn check_store(&self) -> bool {
+        library::check_store(self.store)
+    }
+
+    /// The session as it stands.
+    pub fn session(&self) -> Session {
+        *self.session
+    }
+
+    /// The store as it stands.
+    pub fn store(&self) -> &[u8] {
+        self.store
+    }
+
+    /// Opens the application.
+    pub fn open(&mut self) -> Result<(), Error> {
+        let mut command = [0; HEADER + IDENTIFIER.len()];
+        let (header, identifier) = command.split_at_mut(HEADER);
+        header.copy_from_slice(&[OPEN, DATA, 0, IDENTIFIER.len() as u8]);
+        identifier.copy_from_slice(&IDENTIFIER);
+        self.change(&command)
+    }
+
+    /// Closes the application.
+    pub fn close(&mut self) -> Result<(), Error> {
+        self.change(&[CLOSE, DATA, 0, 0])
+    }
+
+    /// Reads data of an object into the room, which has [`HEADER`] bytes more than the length, and gives the data.
+    ///
+    /// ```
+    /// # use element::{Element, Error, Length, ObjectNumber, Offset, Refusal, Session, FACTORY_STORE_SIZE};
+    /// # let (mut store, mut session) = ([0; FACTORY_STORE_SIZE], Session::fresh());
+    /// # let mut element = Element::factory(&mut store, &mut session)?;
+    /// # element.open()?;
+    /// let mut room = [0; 5];
+    /// let none_in_use = element.read(ObjectNumber(0xF1D0), Offset(0), Length(1), &mut room);
+    /// assert_eq!(none_in_use, Err(Error::Refused(Refusal::BoundaryExceeded)));
+    ///
+    /// let error = element.read(ObjectNumber::LAST_ERROR, Offset(0), Length(1), &mut room)?;
+    /// assert_eq!(error, [0x08]);
+    /// # Ok::<(), Error>(())
+    /// ```
+    pub fn read<'r>(
+        &mut self,
+        object: ObjectNumber,
+        offset: Offset,
+        length: Length,
+        room: &'r mut [u8],
+    ) -> Result<&'r [u8], Error> {
+        let [object, offset, length] = [object.0, offset.0, length.0].map(u16::to_be_bytes);
+        let command = [[GET, DATA], [0, 6], object, offset, length];
+        self.carry_out(command.as_flattened(), room)
+    }
+
+    /// Writes bytes at an offset of an object. A full object refuses and keeps what it has.
+    ///
+    /// [`Error::WrongSize`] where the scratch is under [`LEAD`] bytes more than the bytes, or where they fit no command.
+    ///
+    /// ```
+    /// # use element::{Element, Error, ObjectNumber, Offset, Refusal, Session, FACTORY_STORE_SIZE, LEAD};
+    /// # let (mut store, mut session) = ([0; FACTORY_STORE_SIZE], Session::fresh());
+    /// # let mut element = Element::factory(&mut store, &mut session)?;
+    /// # element.open()?;
+    /// let fares = ObjectNumber(0xF1D0); // 140 bytes
+    /// let mut scratch = [0; LEAD + 8];
+    /// element.write(fares, Offset(132), b"FARE 018", &mut scratch)?;
+    /// let past = element.write(fares, Offset(140), b"FARE 019", &mut scratch);
+    /// assert_eq!(past, Err(Error::Refused(Refusal::BoundaryExceeded)));
+    /// # Ok::<(), Error>(())
+    /// ```
+    pub fn write(
+        &mut self,
+        object: ObjectNumber,
+        offset: Offset,
+        bytes: &[u8],
+        scratch: &mut [u8],
+    ) -> Result<(), Error> {
+        let place = offset.0.to_be_bytes();
+        self.change(set(DATA, object, place, bytes, scratch)?)
+    }
+
+    /// Makes all data of an object zero, then writes as [`write`](Element::write) does: what stands behind the bytes is no more in use.
+    pub fn erase_and_write(
+        &mut self,
+        object: ObjectNumber,
+        offset: Offset,
+        bytes: &[u8],
+        scratch: &mut [u8],
+    ) -> Result<(), Error> {
+        let place = offset.0.to_be_bytes();
+        self.change(set(ERASE_AND_WRITE, object, place, bytes, scratch)?)
+    }
+
+    /// Reads the metadata of an object into the room and gives its fields, those behind 20 and L, with the tags of [`tag`].
+    pub fn metadata<'r>(
+        &mut self,
+        object: ObjectNumber,
+        room: &'r mut [u8],
+    ) -> Result<&'r [u8], Error> {
+        let command = [[GET, METADATA], [0, 2], object.0.to_be_bytes()];
+        let answer = self.carry_out(command.as_flattened(), room)?;
+        Ok(answer.get(2..).unwrap_or(&[]))
+    }
+
+    /// Writes metadata of an object: fields with the tags of [`tag`], without 20 and L in front. All of them are stored or none.
+    ///
+    /// [`Error::WrongSize`] where the scratch is under [`LEAD`] bytes more than the fields, or where these are over 255 bytes.
+    ///
+    /// ```
+    /// # use element::{Element, Error, ObjectNumber, Session, FACTORY_STORE_SIZE, LARGEST_ROOM};
+    /// use element::{expression, tag, LEAD, OPERATIONAL};
+    /// # let (mut store, mut session) = ([0; FACTORY_STORE_SIZE], Session::fresh());
+    /// # let mut element = Element::factory(&mut store, &mut session)?;
+    /// # element.open()?;
+    /// # let mut room = [0; LARGEST_ROOM];
+    ///
+    /// let fields = [tag::LCSO, 1, OPERATIONAL, tag::CHANGE, 1, expression::NEVER];
+    /// element.set_metadata(ObjectNumber(0xF1D0), &fields, &mut [0; LEAD + 6])?;
+    /// let stored = element.metadata(ObjectNumber(0xF1D0), &mut room)?;
+    /// assert!(stored.starts_with(&[tag::LCSO, 1, OPERATIONAL]));
+    /// # Ok::<(), Error>(())
+    /// ```
+    pub fn set_metadata(
+        &mut self,
+        object: ObjectNumber,
+        fields: &[u8],
+        scratch: &mut [u8],
+    ) -> Result<(), Error> {
+        let length = u8::try_from(fields.len()).map_err(|_| Error::WrongSize)?;
+        let lead = [tag::METADATA, length];
+        self.change(set(METADATA, object, lead, fields, scratch)?)
+    }
+
+    /// Carries out a command given as bytes, and gives outcome and response as they stand.
+    ///
+    /// With a room of [`LARGEST_ROOM`](crate::LARGEST_ROOM) bytes every response fits.
+    pub fn send<'r>(&mut self, command: &[u8], room: &'r mut [u8]) -> Answer<'r> {
+        let outcome = library::execute(command, self.store, self.session, room);
+        let response = match outcome {
+            ANSWERED => response(room),
+            _ => &[],
+        };
+        Answer { outcome, response }
+    }
+
+    /// Carries out a command given as bytes, as [`send`](Element::send) does, and gives its OutData, or the refusal by its own number, also
+    /// where the last error holds a higher one. (A refused command is judged twice, the second time for its number.)
+    ///
+    /// ```
+    /// # use element::{Element, Error, Refusal, Session, FACTORY_STORE_SIZE, LEAST_ROOM};
+    /// # let (mut store, mut session) = ([0; FACTORY_STORE_SIZE], Session::fresh());
+    /// # let mut element = Element::factory(&mut store, &mut session)?;
+    /// let mut room = [0; LEAST_ROOM];
+    /// let closed = element.carry_out(&[0x71, 0x00, 0x00, 0x00], &mut room);
+    /// assert_eq!(closed, Err(Error::Refused(Refusal::NotAvailable)));
+    /// let unknown = element.carry_out(&[0x72, 0x00, 0x00, 0x00], &mut room);
+    /// assert_eq!(unknown, Err(Error::Refused(Refusal::InvalidCommand)));
+    /// assert_eq!(element.session().error, 0x0C); // the higher of both
+    /// # Ok::<(), Error>(())
+    /// ```
+    pub fn carry_out<'r>(&mut self, command: &[u8], room: &'r mut [u8]) -> Result<&'r [u8], Error> {
+        if library::execute(command, self.store, self.session, room) != ANSWERED {
+            return Err(Error::NoRoom);
+        }
+        if room.first() == Some(&REFUSED) {
+            return Err(Error::Refused(self.refusal_of(command, room)));
+        }
+        Ok(response(room).get(HEADER..).unwrap_or(&[]))
+    }
+
+    /// Carries out a list of commands as that many calls of [`send`](Element::send) would. The i-th command is the next `sizes[i]` bytes of
+    /// `commands`, its room the next `spaces[i]` bytes of `rooms`, its outcome `outcomes[i]`. There are as many commands as outcomes.
+    ///
+    /// [`Error::WrongSize`] where there are fewer sizes or spaces than outcomes, or where they add up to more than `commands` or `rooms` have.
+    ///
+    /// ```
+    /// # use element::{Element, Error, Session, FACTORY_STORE_SIZE};
+    /// # let (mut store, mut session) = ([0; FACTORY_STORE_SIZE], Session::fresh());
+    /// # let mut element = Element::factory(&mut store, &mut session)?;
+    /// let list = b"\x70\x00\x00\x10\xD2\x76\x00\x00\x04GenAuthAppl\x71\x00\x00\x00"; // open, close
+    /// let (mut rooms, mut outcomes) = ([0xEE; 8], [0xEE; 2]);
+    /// element.run(list, &[20, 4], &mut rooms, &[4, 4], &mut outcomes)?;
+    /// assert_eq!((rooms, outcomes), ([0; 8], [0; 2]));
+    /// # Ok::<(), Error>(())
+    /// ```
+    pub fn run(
+        &mut self,
+        commands: &[u8],
+        sizes: &[usize],
+        rooms: &mut [u8],
+        spaces: &[usize],
+        outcomes: &mut [u8],
+    ) -> Result<(), Error> {
+        let list = List {
+            commands,
+            sizes,
+            rooms,
+            spaces,
+            outcomes,
+        };
+        match library::run(list, self.store, self.session) {
+            ANSWERED => Ok(()),
+            _ => Err(Error::WrongSize),
+        }
+    }
+
+    /// Carries out a command that answers with no data.
+    fn change(&mut self, command: &[u8]) -> Result<(), Error> {
+        let mut room = [0; HEADER];
+        self.carry_out(command, &mut room).map(|_| ())
+    }
+
+    /// The number of a command that was just refused. The last error may hold a higher one, so the command is carried out once more on a
+    /// session that differs from the one before it only in a last error of 0. No judgment looks at the last error, and a refused command changes
+    /// nothing else: it is refused again with the same number, and the store stays as it is.
+    fn refusal_of(&mut self, command: &[u8], room: &mut [u8]) -> Refusal {
+        let mut again = Session {
+            error: 0,
+            ..*self.session
+        };
+        library::execute(command, self.store, &mut again, room);
+        Refusal::from_number(again.error).unwrap_or(Refusal::InternalError)
+    }
+}
+
+/// The bytes of the response at the front of a room.
+fn response(room: &[u8]) -> &[u8] {
+    match room {
+        [_, _, high, low, ..] => {
+            let out_len = usize::from(u16::from_be_bytes([*high, *low]));
+            room.get(..HEADER + out_len).unwrap_or(&[])
+        }
+        _ => &[],
+    }
+}
+
+/// Puts a set command together at the front of the scratch: two bytes stand between the object and what is written.
+fn set<'s>(
+    param: u8,
+    object: ObjectNumber,
+    between: [u8; 2],
+    written: &[u8],
+    scratch: &'s mut [u8],
+) -> Result<&'s [u8], Error> {
+    let length = LEAD + written.len();
+    if length > LARGEST_COMMAND {
+        return Err(Error::WrongSize);
+    }
+    let command = scratch.get_mut(..length).ok_or(Error::WrongSize)?;
+    let (lead, rest) = command.split_at_mut_checked(LEAD).ok_or(Error::WrongSize)?;
+    let [in_len, object] = [(length - HEADER) as u16, object.0].map(u16::to_be_bytes);
+    lead.copy_from_slice([[SET, param], in_len, object, between].as_flattened());
+    rest.copy_from_slice(written);
+    Ok(command)
+}
+
+#[cfg(test)]
+mod tests {
+    use super::*;
+
+    const FARES: ObjectNumber = ObjectNumber(0xF1D0);
+
+    #[test]
+    fn a_response_ends_at_its_out_len() {
+        assert_eq!(response(&[0, 0, 0, 1, 9, 9]), [0, 0, 0, 1, 9]);
+        assert_eq!(response(&[0, 0, 0, 0, 9, 9]), [0, 0, 0, 0]);
+        assert_eq!(response(&[0, 0, 0, 3, 9, 9]), []);
+        assert_eq!(response(&[0, 0, 0]), []);
+    }
+
+    #[test]
+    fn a_write_is_put_together_at_the_front_of_the_scratch() {
+        let mut scratch = [0xEE; 12];
+        let command = set(DATA, FARES, [0x00, 0x09], &[1, 2, 3], &mut scratch);
+        let expected = [2, 0, 0, 7, 0xF1, 0xD0, 0, 9, 1, 2, 3];
+        assert_eq!(command, Ok(&expected[..]));
+        assert_eq!(scratch[11], 0xEE);
+    }
+
+    #[test]
+    fn the_largest_command_has_its_in_len() {
+        let mut scratch = [0; LARGEST_COMMAND];
+        let command = set(
+            ERASE_AND_WRITE,
+            FARES,
+            [0, 0],
+            &[7; LARGEST_COMMAND - LEAD],
+            &mut scratch,
+        );
+        let command = command.expect("1,557 bytes are a command");
+        assert_eq!(command.len(), LARGEST_COMMAND);
+        assert_eq!(command[..4], [2, 0x40, 0x06, 0x11]);
+    }
+
+    #[test]
+    fn what_fits_no_command_or_scratch_leaves_the_scratch() {
+        let mut scratch = [0xEE; LARGEST_COMMAND + 1];
+        let long = [0; LARGEST_COMMAND - LEAD + 1];
+        assert_eq!(
+            set(DATA, FARES, [0, 0], &long, &mut scratch),
+            Err(Error::WrongSize)
+        );
+        assert_eq!(
+            set(DATA, FARES, [0, 0], &[1], &mut scratch[..LEAD]),
+            Err(Error::WrongSize)
+        );
+        assert_eq!(scratch, [0xEE; LARGEST_COMMAND + 1]);
+    }
+}

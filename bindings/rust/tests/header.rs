@@ -1,0 +1,105 @@
+//! The constants are those of include/element.h.
+use element::{command, ObjectNumber, Refusal};
+
+/// Each `ELEMENT_NAME = NUMBER` of the header.
+fn header() -> Vec<(String, usize)> {
+    let path = concat!(env!("CARGO_MANIFEST_DIR"), "/../../include/element.h");
+    let text = std::fs::read_to_string(path).expect(path);
+    text.lines().flat_map(constants).collect()
+}
+
+fn constants(line: &str) -> Vec<(String, usize)> {
+    let plain = line.split("/*").next().unwrap_or("");
+    let parts = plain.split([',', '{', '}', ';']);
+    parts.filter_map(constant).collect()
+}
+
+fn constant(text: &str) -> Option<(String, usize)> {
+    let (name, number) = text.split_once('=')?;
+    let name = name.trim().strip_prefix("ELEMENT_")?;
+    let number = number.trim();
+    let value = match number.strip_prefix("0x") {
+        Some(hex) => usize::from_str_radix(hex, 16),
+        None => number.parse(),
+    };
+    Some((name.to_string(), value.ok()?))
+}
+
+fn refusals() -> Vec<(&'static str, usize)> {
+    [
+        ("INVALID_OBJECT", Refusal::InvalidObject),
+        ("INVALID_PARAM", Refusal::InvalidParam),
+        ("INVALID_LENGTH", Refusal::InvalidLength),
+        ("INVALID_DATA", Refusal::InvalidData),
+        ("INTERNAL_ERROR", Refusal::InternalError),
+        ("ACCESS_DENIED", Refusal::AccessDenied),
+        ("BOUNDARY_EXCEEDED", Refusal::BoundaryExceeded),
+        ("INVALID_COMMAND", Refusal::InvalidCommand),
+        ("NOT_AVAILABLE", Refusal::NotAvailable),
+        ("INSUFFICIENT_BUFFER", Refusal::InsufficientBuffer),
+    ]
+    .map(|(name, refusal)| (name, refusal.number().into()))
+    .to_vec()
+}
+
+fn codes() -> Vec<(&'static str, usize)> {
+    [
+        ("STATUS_DONE", command::DONE),
+        ("STATUS_REFUSED", command::REFUSED),
+        ("CREATION", element::CREATION),
+        ("INITIALISATION", element::INITIALISATION),
+        ("OPERATIONAL", element::OPERATIONAL),
+        ("TERMINATION", element::TERMINATION),
+        ("GET", command::GET),
+        ("SET", command::SET),
+        ("OPEN", command::OPEN),
+        ("CLOSE", command::CLOSE),
+        ("FLUSH", command::FLUSH),
+        ("DATA", command::DATA),
+        ("METADATA", command::METADATA),
+        ("ERASE_AND_WRITE", command::ERASE_AND_WRITE),
+    ]
+    .map(|(name, code)| (name, code.into()))
+    .to_vec()
+}
+
+fn sizes() -> Vec<(&'static str, usize)> {
+    vec![
+        ("LCSG", ObjectNumber::LCSG.0.into()),
+        ("LCSA", ObjectNumber::LCSA.0.into()),
+        ("LAST_ERROR", ObjectNumber::LAST_ERROR.0.into()),
+        ("IDENTIFIER_SIZE", command::IDENTIFIER.len()),
+        ("FACTORY_STORE_SIZE", element::FACTORY_STORE_SIZE),
+        ("LARGEST_STORE", element::LARGEST_STORE),
+        ("LARGEST_OBJECT", element::LARGEST_OBJECT),
+        ("LARGEST_COMMAND", element::LARGEST_COMMAND),
+        ("HEADER", element::HEADER),
+        ("LEAST_ROOM", element::LEAST_ROOM),
+        ("LARGEST_ROOM", element::LARGEST_ROOM),
+    ]
+}
+
+#[test]
+fn constants_are_those_of_the_header() {
+    let header = header();
+    for (name, value) in [refusals(), codes(), sizes()].concat() {
+        let pair = (name.to_string(), value);
+        assert!(
+            header.contains(&pair),
+            "{name} is {value} here: expected {:?}",
+            header.iter().find(|(other, _)| other == name)
+        );
+    }
+}
+
+#[test]
+fn metadata_tags_and_expression_bytes_are_those_of_document_01() {
+    use element::{expression as e, tag};
+    let tags = [tag::METADATA, tag::LCSO, tag::MAXIMUM, tag::USED];
+    assert_eq!(tags, [0x20, 0xC0, 0xC4, 0xC5]);
+    assert_eq!([tag::CHANGE, tag::READ, tag::EXECUTE], [0xD0, 0xD1, 0xD3]);
+    assert_eq!([e::ALWAYS, e::NEVER], [0x00, 0xFF]);
+    assert_eq!([e::LCSG, e::LCSA, e::LCSO], [0x70, 0xE0, 0xE1]);
+    assert_eq!([e::EQUAL, e::GREATER, e::LESS], [0xFA, 0xFB, 0xFC]);
+    assert_eq!([e::AND, e::OR, e::LARGEST as u8], [0xFD, 0xFE, 27]);
+}
