@@ -18,8 +18,8 @@ pub fn is_well_formed(store: &[u8]) -> bool {
 
 /// `check FILE`.
 pub fn check(file: &Path) -> Result<Report, Trouble> {
-    let kept = Kept::load(file)?;
-    Ok(judged(&file.display().to_string(), &kept.store))
+    let store = Kept::load_store(file)?;
+    Ok(judged(&file.display().to_string(), &store))
 }
 
 /// The report on a store.

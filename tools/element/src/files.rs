@@ -35,6 +35,14 @@ pub fn read_text(file: &Path) -> Result<String, Trouble> {
     Ok(String::from_utf8_lossy(&bytes).into_owned())
 }
 
+/// Whether two names lead to one file that is there.
+pub fn are_same(one: &Path, other: &Path) -> bool {
+    match (fs::canonicalize(one), fs::canonicalize(other)) {
+        (Ok(one), Ok(other)) => one == other,
+        _ => false,
+    }
+}
+
 /// What a text is called in errors.
 pub fn text_name(file: &Path) -> String {
     match file == Path::new("-") {

@@ -27,6 +27,13 @@ impl Kept {
         let _held = place.hold(File::lock_shared);
         place.load()
     }
+
+    /// Reads the store alone, whatever stands in the session's file.
+    pub fn load_store(file: &Path) -> Result<Vec<u8>, Trouble> {
+        let place = Place::new(file);
+        let _held = place.hold(File::lock_shared);
+        place.load_store()
+    }
 }
 
 /// Where an element is kept. `next_session` stands only from the deciding rename on until both new files are in their places.
@@ -81,19 +88,26 @@ impl Place {
 
     /// Reads store and session as the last finished run left them.
     pub fn load(&self) -> Result<Kept, Trouble> {
-        let decided = self.next_session.exists();
-        let store = match decided && self.next_store.exists() {
+        Ok(Kept {
+            store: self.load_store()?,
+            session: read_session(match self.is_decided() {
+                true => &self.next_session,
+                false => &self.session,
+            })?,
+        })
+    }
+
+    fn load_store(&self) -> Result<Vec<u8>, Trouble> {
+        let store = match self.is_decided() && self.next_store.exists() {
             true => &self.next_store,
             false => &self.store,
         };
-        let session = match decided {
-            true => &self.next_session,
-            false => &self.session,
-        };
-        Ok(Kept {
-            store: read(store, LARGEST_STORE + 1)?,
-            session: read_session(session)?,
-        })
+        read(store, LARGEST_STORE + 1)
+    }
+
+    /// Whether a change is decided whose files are not all in their places.
+    fn is_decided(&self) -> bool {
+        self.next_session.exists()
     }
 
     /// Which of the files is there already, if any is.
@@ -145,7 +159,7 @@ impl Place {
 
     /// Brings the new files of a decided change into their places.
     pub fn settle(&self) -> Result<(), Trouble> {
-        if !self.next_session.exists() {
+        if !self.is_decided() {
             return Ok(());
         }
         if self.next_store.exists() {

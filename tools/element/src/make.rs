@@ -17,12 +17,18 @@ pub fn new(file: &Path, force: bool) -> Result<Report, Trouble> {
     let mut store = vec![0; FACTORY_STORE_SIZE];
     let mut session = Session::fresh();
     Element::factory(&mut store, &mut session)
-        .map_err(|error| Trouble::one(format!("the library makes no factory store: {error}")))?;
+        .map_err(|_| Trouble::one("the library makes no factory store".into()))?;
     put(file, &store, force)
 }
 
 /// `make FILE DESCRIPTION`.
 pub fn make(file: &Path, description: &Path, force: bool) -> Result<Report, Trouble> {
+    if files::are_same(file, description) {
+        return Err(Trouble::one(format!(
+            "{} is FILE and DESCRIPTION, expected two files",
+            file.display()
+        )));
+    }
     let text = files::read_text(description)?;
     let name = files::text_name(description);
     let store = description::to_store(&text).map_err(|slips| Trouble::slips(&name, &slips))?;

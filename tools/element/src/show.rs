@@ -1,6 +1,8 @@
 //! `show`: the objects of a store in readable form.
 use std::path::Path;
 
+use element::Session;
+
 use crate::check;
 use crate::description;
 use crate::expression;
@@ -14,17 +16,23 @@ const BAR: usize = 20;
 
 /// `show FILE`, or with a description of it.
 pub fn show(file: &Path, as_description: bool) -> Result<Report, Trouble> {
-    let kept = Kept::load(file)?;
-    let judged = check::judged(&file.display().to_string(), &kept.store);
+    let (store, session) = match as_description {
+        true => (Kept::load_store(file)?, Session::fresh()),
+        false => {
+            let kept = Kept::load(file)?;
+            (kept.store, kept.session)
+        }
+    };
+    let judged = check::judged(&file.display().to_string(), &store);
     if judged.status != Status::Done {
         return Ok(judged);
     }
     if as_description {
-        return Ok(Report::done(description::of_store(&kept.store)));
+        return Ok(Report::done(description::of_store(&store)));
     }
     let mut text = judged.text;
-    text.push_str(&format!("session: {}\n", names::session(kept.session)));
-    for record in record::records(&kept.store) {
+    text.push_str(&format!("session: {}\n", names::session(session)));
+    for record in record::records(&store) {
         text.push('\n');
         text.push_str(&object(&record));
     }
