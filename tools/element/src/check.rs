@@ -9,6 +9,8 @@ use crate::names;
 use crate::record;
 use crate::trouble::{Report, Status, Trouble};
 
+const DISAGREES: &str = "the library decides, but this tool's reading of the records disagrees";
+
 /// What the library says of a store.
 pub fn is_well_formed(store: &[u8]) -> bool {
     let mut copy = store.to_vec();
@@ -48,10 +50,10 @@ pub fn malformed(name: &str, well_formed: bool, faults: &[Fault]) -> Option<Stri
         (true, []) => None,
         (false, [_, ..]) => Some(format!("{name}: malformed\n{lines}")),
         (false, []) => Some(format!(
-            "{name}: malformed by the library, which decides; this tool's own reading of the records disagrees: it finds nothing malformed\n"
+            "{name}: malformed by the library; {DISAGREES}: it finds nothing malformed\n"
         )),
         (true, _) => Some(format!(
-            "{name}: well formed by the library, which decides; this tool's own reading of the records disagrees:\n{lines}"
+            "{name}: well formed by the library; {DISAGREES}:\n{lines}"
         )),
     }
 }

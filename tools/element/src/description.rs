@@ -251,13 +251,37 @@ mod tests {
     ];
 
     /// What is replaced in the line, by what, and the column and words that follow.
-    const REPLACED: [(&str, &str, usize, &str); 6] = [
-        ("02", "0", 94, "half a byte: one hex digit stands alone, expected two to a byte"),
-        ("140", "1", 89, "2 bytes of data, expected at most the maximum of 1"),
-        ("always", "maybe", 65, "'maybe' stands here, expected always, never or an expression in quotes"),
-        ("operational", "ready", 47, "'ready' stands here, expected creation (01), initialisation (03), operational (07) or termination (0F)"),
-        ("l\"", "l", 39, "this quote is not closed, expected another \" on the same line"),
-        ("data", "dada", 86, "'dada' stands here, expected data or the end of the line"),
+    const REPLACED: [(&str, &str, usize, &str); 5] = [
+        (
+            "02",
+            "0",
+            94,
+            "half a byte: one hex digit stands alone, expected two to a byte",
+        ),
+        (
+            "140",
+            "1",
+            89,
+            "2 bytes of data, expected at most the maximum of 1",
+        ),
+        (
+            "always",
+            "maybe",
+            65,
+            "'maybe' stands here, expected always, never or an expression in quotes",
+        ),
+        (
+            "l\"",
+            "l",
+            39,
+            "this quote is not closed, expected another \" on the same line",
+        ),
+        (
+            "data",
+            "dada",
+            86,
+            "'dada' stands here, expected data or the end of the line",
+        ),
     ];
 
     #[test]
@@ -269,6 +293,12 @@ mod tests {
             let text = LINE.replace(old, new);
             assert_eq!(slip(&text), (1, column, why.to_owned()), "{text}");
         }
+        let (line, column, why) = slip(&LINE.replace("operational", "ready"));
+        assert_eq!((line, column), (1, 47));
+        assert_eq!(
+            why,
+            format!("'ready' stands here, expected {}", names::STATES_EXPECTED)
+        );
         let (line, column, why) = slip(&format!("{LINE}\n{LINE}"));
         assert_eq!((line, column), (2, 1));
         assert_eq!(why, "object F1D0 behind F1D0, expected a number above that");

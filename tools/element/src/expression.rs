@@ -85,10 +85,14 @@ fn within_limits(bytes: &[u8]) -> Result<(), String> {
         .filter(|part| part.get(3) == Some(&OR))
         .count();
     if conditions > CONDITIONS {
-        return Err(format!("{conditions} conditions, at most {CONDITIONS}"));
+        return Err(format!(
+            "{conditions} conditions, expected at most {CONDITIONS}"
+        ));
     }
     if groups > GROUPS {
-        return Err(format!("{groups} groups joined by or, at most {GROUPS}"));
+        return Err(format!(
+            "{groups} groups joined by or, expected at most {GROUPS}"
+        ));
     }
     Ok(())
 }
@@ -102,24 +106,12 @@ pub fn from_text(text: &str, first: usize) -> Result<Vec<u8>, Slip> {
         return Ok(vec![byte]);
     }
     let mut bytes = Vec::new();
-    let (mut conditions, mut groups) = (1, 1);
     read_condition(&mut scan, &mut bytes)?;
     while !scan.is_end() {
         let column = scan.column();
-        let joint = read_joint(&mut scan)?;
-        conditions += 1;
-        groups += usize::from(joint == OR);
-        if conditions > CONDITIONS {
-            return Err(Slip::at(column, format!("the condition after this is number {conditions}, expected at most {CONDITIONS} conditions")));
-        }
-        if groups > GROUPS {
-            return Err(Slip::at(
-                column,
-                format!("the group after this is number {groups}, expected at most {GROUPS} groups joined by or"),
-            ));
-        }
-        bytes.push(joint);
+        bytes.push(read_joint(&mut scan)?);
         read_condition(&mut scan, &mut bytes)?;
+        within_limits(&bytes).map_err(|why| Slip::at(column, why))?;
     }
     Ok(bytes)
 }
@@ -209,7 +201,11 @@ mod tests {
     fn a_slip_has_its_column() {
         let slip = from_text("LcsO < ready", 10).unwrap_err();
         assert_eq!(slip.column, 17);
-        assert_eq!(slip.why, "'ready' stands here, expected creation (01), initialisation (03), operational (07) or termination (0F)");
+        let expected = names::STATES_EXPECTED;
+        assert_eq!(
+            slip.why,
+            format!("'ready' stands here, expected {expected}")
+        );
         assert_eq!(
             from_text("", 10).unwrap_err().why,
             "nothing stands here, expected always, never, LcsG, LcsA or LcsO"
