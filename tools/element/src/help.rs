@@ -25,7 +25,8 @@ error; without that file the session is the fresh one. DESCRIPTION and LIST are 
 The proved library judges every command and every store.
 
 Exit status: 0 done; 1 the store is malformed, library and explainer disagree, or with `run --strict` a
-command was refused; 2 bad use, or a file that cannot be read, understood or written: then nothing is changed.
+command was refused; 2 bad use, or a file that cannot be read, understood or written.
+Each error says what is wrong and what was expected.
 ";
 
 /// `element new --help`.
@@ -108,7 +109,7 @@ bytes. LIST may be - for standard input. An error is told with line and column, 
 Store and session are kept in FILE and FILE.session when the whole list is carried out, before the answers
 are printed. New files are finished beside them (FILE.element-next, FILE.session.element-next) and take their
 places by rename: after an interruption both are the old ones or both the new ones. Runs on one folder wait
-for each other.
+for each other. A run whose answers cannot be printed is kept all the same.
 Exit status: 0 done, also where commands are refused; 1 the store is malformed, so that every command is
 refused, or with --strict a command was refused; 2 bad use, or a file that cannot be read, understood or written.
 ";

@@ -130,7 +130,10 @@ impl Place {
             return Err(trouble);
         }
         self.sync_folder();
-        self.settle()
+        self.settle().map_err(|Trouble(mut lines)| {
+            lines.push("the change is decided all the same: the next run puts it in place".into());
+            Trouble(lines)
+        })
     }
 
     fn write_next(&self, store: Option<&[u8]>, session: Session) -> Result<(), Trouble> {
