@@ -1,0 +1,188 @@
+//! Commands in words. Nothing is judged here: the words say what stands in the bytes, the library says what it leads to.
+use crate::hex;
+use crate::metadata;
+use crate::names;
+
+/// The bytes that open the application.
+const IDENTIFIER: &[u8] = b"\xD2\x76\x00\x00\x04GenAuthAppl";
+const FLUSH: u8 = 0x80;
+
+/// A command, named and taken apart.
+pub fn in_words(command: &[u8]) -> String {
+    let [cmd, param, high, low, data @ ..] = command else {
+        return format!(
+            "{} of a command, expected at least 4",
+            names::count(command.len(), "byte")
+        );
+    };
+    let what = match (cmd & !FLUSH, *param) {
+        (0x01, 0x00) => read(data),
+        (0x01, 0x01) => read_metadata(data),
+        (0x02, 0x00) => write("write", data),
+        (0x02, 0x40) => write("erase and write", data),
+        (0x02, 0x01) => write_metadata(data),
+        (0x70, 0x00) => open(data),
+        (0x71, 0x00) => close(data),
+        (known, _) => unknown(known, *param),
+    };
+    let flush = if cmd & FLUSH != 0 { "flush, " } else { "" };
+    format!("{flush}{what}{}", length_note(*high, *low, data))
+}
+
+fn length_note(high: u8, low: u8, data: &[u8]) -> String {
+    let in_len = usize::from(u16::from_be_bytes([high, low]));
+    match in_len == data.len() {
+        true => String::new(),
+        false => format!(
+            " (InLen says {in_len}, {} follow)",
+            names::count(data.len(), "byte")
+        ),
+    }
+}
+
+fn pair(high: &u8, low: &u8) -> u16 {
+    u16::from_be_bytes([*high, *low])
+}
+
+fn short(what: &str, data: &[u8], expected: &str) -> String {
+    format!(
+        "{what} with {} of InData, expected {expected}",
+        names::count(data.len(), "byte")
+    )
+}
+
+fn read(data: &[u8]) -> String {
+    let [o1, o2, a1, a2, l1, l2] = data else {
+        return short("read", data, "6: object, offset, length");
+    };
+    format!(
+        "read {} at {}: {}",
+        names::object(pair(o1, o2)),
+        pair(a1, a2),
+        names::count(pair(l1, l2).into(), "byte")
+    )
+}
+
+fn read_metadata(data: &[u8]) -> String {
+    match data {
+        [o1, o2] => format!("read metadata of {}", names::object(pair(o1, o2))),
+        _ => short("read metadata", data, "2: object"),
+    }
+}
+
+fn write(what: &str, data: &[u8]) -> String {
+    match data {
+        [o1, o2, a1, a2, bytes @ ..] if !bytes.is_empty() => format!(
+            "{what} {} at {}: {}",
+            names::object(pair(o1, o2)),
+            pair(a1, a2),
+            names::count(bytes.len(), "byte")
+        ),
+        _ => short(what, data, "at least 5: object, offset, bytes"),
+    }
+}
+
+fn write_metadata(data: &[u8]) -> String {
+    match data {
+        [o1, o2, content @ ..] if content.len() >= 2 => format!(
+            "write metadata of {}: {}",
+            names::object(pair(o1, o2)),
+            metadata::in_words(content)
+        ),
+        _ => short("write metadata", data, "at least 4: object, 20, L"),
+    }
+}
+
+fn open(data: &[u8]) -> String {
+    match data {
+        IDENTIFIER => "open the application".into(),
+        _ if data.len() == IDENTIFIER.len() => format!(
+            "open with another identifier, {} \"{}\"",
+            hex::spaced(data),
+            hex::text(data)
+        ),
+        _ => short("open", data, "16: the identifier"),
+    }
+}
+
+fn close(data: &[u8]) -> String {
+    match data {
+        [] => "close the application".into(),
+        _ => short("close", data, "none"),
+    }
+}
+
+fn unknown(cmd: u8, param: u8) -> String {
+    let (name, expected) = match cmd {
+        0x01 => ("get", "00 or 01"),
+        0x02 => ("set", "00, 01 or 40"),
+        0x70 => ("open", "00"),
+        0x71 => ("close", "00"),
+        _ => return format!("unknown Cmd {cmd:02X}, expected 01, 02, 70 or 71"),
+    };
+    format!("{name} with unknown Param {param:02X}, expected {expected}")
+}
+
+#[cfg(test)]
+mod tests {
+    use super::*;
+
+    fn said(hex_text: &str) -> String {
+        in_words(&hex::bytes(hex_text, 1).unwrap())
+    }
+
+    #[test]
+    fn every_row_of_the_command_table() {
+        assert_eq!(
+            said("01 00 00 06 F1 D0 00 00 00 11"),
+            "read F1D0 at 0: 17 bytes"
+        );
+        assert_eq!(said("01 01 00 02 F1 D0"), "read metadata of F1D0");
+        assert_eq!(
+            said("02 00 00 0C F1 D0 00 09 01 02 03 04 05 06 07 08"),
+            "write F1D0 at 9: 8 bytes"
+        );
+        assert_eq!(
+            said("02 40 00 05 E0 C0 00 00 03"),
+            "erase and write E0C0 (LcsG) at 0: 1 byte"
+        );
+        assert_eq!(
+            said("02 01 00 07 F1 D0 20 03 C0 01 07"),
+            "write metadata of F1D0: LcsO 07 operational"
+        );
+        assert_eq!(
+            said("70 00 00 10 D2 76 00 00 04 47 65 6E 41 75 74 68 41 70 70 6C"),
+            "open the application"
+        );
+        assert_eq!(said("F1 00 00 00"), "flush, close the application");
+    }
+
+    #[test]
+    fn commands_that_fit_no_row() {
+        assert_eq!(said(""), "0 bytes of a command, expected at least 4");
+        assert_eq!(
+            said("55 00 00 00"),
+            "unknown Cmd 55, expected 01, 02, 70 or 71"
+        );
+        assert_eq!(
+            said("01 40 00 00"),
+            "get with unknown Param 40, expected 00 or 01"
+        );
+        assert_eq!(
+            said("71 00 00 01"),
+            "close the application (InLen says 1, 0 bytes follow)"
+        );
+        assert_eq!(
+            said("01 00 00 01 F1"),
+            "read with 1 byte of InData, expected 6: object, offset, length"
+        );
+        assert_eq!(
+            said("02 00 00 04 F1 D0 00 00"),
+            "write with 4 bytes of InData, expected at least 5: object, offset, bytes"
+        );
+        assert_eq!(
+            said("70 00 00 01 D2"),
+            "open with 1 byte of InData, expected 16: the identifier"
+        );
+    }
+}

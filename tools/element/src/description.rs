@@ -1,0 +1,306 @@
+//! Descriptions: an object to a line, and the store that they describe.
+use crate::expression;
+use crate::faults;
+use crate::hex;
+use crate::names;
+use crate::record::{self, Record, HEAD, KIND, LARGEST_OBJECT, SLOT};
+use crate::scan::{self, Scan};
+use crate::trouble::Slip;
+
+/// An object as a line describes it.
+#[derive(Debug, PartialEq, Eq)]
+struct Described {
+    object: u16,
+    maximum: u16,
+    lcso: u8,
+    expressions: [Vec<u8>; 3],
+    data: Vec<u8>,
+}
+
+/// The store that a text describes, or the first slip of each line that has one.
+pub fn to_store(text: &str) -> Result<Vec<u8>, Vec<Slip>> {
+    let mut store = Vec::new();
+    let mut slips = Vec::new();
+    let mut before = None;
+    for (number, line, _) in scan::lines(text) {
+        let scan = Scan::new(line, 1);
+        if scan.is_end() {
+            continue;
+        }
+        match described(scan, before) {
+            Ok(object) => {
+                before = Some(object.object);
+                store.extend(packed(&object));
+            }
+            Err(slip) => slips.push(slip.on(number)),
+        }
+    }
+    match slips.is_empty() {
+        true => Ok(store),
+        false => Err(slips),
+    }
+}
+
+fn described(mut scan: Scan, before: Option<u16>) -> Result<Described, Slip> {
+    let column = scan.column();
+    let object = scan.one_of("an object number of four hex digits", object_number)?;
+    if let Some(why) = faults::object_fault(object, before) {
+        return Err(Slip::at(column, why));
+    }
+    keyword(&mut scan, "maximum")?;
+    let maximum = scan.one_of(&format!("a number from 1 to {LARGEST_OBJECT}"), maximum)?;
+    keyword(&mut scan, "lcso")?;
+    let lcso = scan.one_of(names::STATES_EXPECTED, names::state_of)?;
+    let mut expressions: [Vec<u8>; 3] = Default::default();
+    for (slot, name) in expressions.iter_mut().zip(names::SLOTS) {
+        keyword(&mut scan, name)?;
+        *slot = read_expression(&mut scan)?;
+    }
+    let data = read_data(&mut scan, maximum)?;
+    Ok(Described {
+        object,
+        maximum,
+        lcso,
+        expressions,
+        data,
+    })
+}
+
+fn keyword(scan: &mut Scan, word: &str) -> Result<(), Slip> {
+    scan.one_of(word, |found| found.eq_ignore_ascii_case(word).then_some(()))
+}
+
+fn object_number(word: &str) -> Option<u16> {
+    let digits = word.len() == 4 && word.chars().all(|c| c.is_ascii_hexdigit());
+    digits.then(|| u16::from_str_radix(word, 16).ok()).flatten()
+}
+
+fn maximum(word: &str) -> Option<u16> {
+    let digits = word.chars().all(|c| c.is_ascii_digit());
+    let value = digits.then(|| word.parse::<u16>().ok()).flatten()?;
+    (1..=LARGEST_OBJECT)
+        .contains(&usize::from(value))
+        .then_some(value)
+}
+
+/// `always`, `never`, or any expression in quotes.
+fn read_expression(scan: &mut Scan) -> Result<Vec<u8>, Slip> {
+    if scan.peek() == "\"" {
+        let (text, column) = scan.quoted()?;
+        return expression::from_text(&text, column);
+    }
+    scan.one_of("always, never or an expression in quotes", |word| {
+        matches!(word.to_ascii_lowercase().as_str(), "always" | "never")
+            .then(|| expression::from_text(word, 1).ok())
+            .flatten()
+    })
+}
+
+/// Where a line ends without data, none is in use.
+fn read_data(scan: &mut Scan, maximum: u16) -> Result<Vec<u8>, Slip> {
+    if scan.is_end() {
+        return Ok(Vec::new());
+    }
+    scan.one_of("data or the end of the line", |word| {
+        word.eq_ignore_ascii_case("data").then_some(())
+    })?;
+    let column = scan.column();
+    let data = scan.hex()?;
+    if data.len() > maximum.into() {
+        let why = format!(
+            "{} of data, expected at most the maximum of {maximum}",
+            names::count(data.len(), "byte")
+        );
+        return Err(Slip::at(column, why));
+    }
+    Ok(data)
+}
+
+fn packed(object: &Described) -> Vec<u8> {
+    let maximum = usize::from(object.maximum);
+    let used = object.data.len();
+    let mut record = Vec::new();
+    let number = |value: usize| u16::try_from(value).unwrap_or(u16::MAX).to_le_bytes();
+    record.extend(number(HEAD + maximum));
+    record.extend(KIND.to_le_bytes());
+    record.extend(object.object.to_le_bytes());
+    record.extend(number(maximum));
+    record.extend(number(used));
+    record.extend([object.lcso, 0]);
+    for expression in &object.expressions {
+        let mut slot = vec![u8::try_from(expression.len()).unwrap_or(u8::MAX)];
+        slot.extend(expression);
+        slot.resize(SLOT, 0);
+        record.extend(slot);
+    }
+    record.extend(&object.data);
+    record.resize(HEAD + maximum, 0);
+    record
+}
+
+/// The description of a well-formed store, from which `make` gives the same bytes.
+pub fn of_store(store: &[u8]) -> String {
+    let records = record::records(store);
+    let objects = names::count(records.len(), "object");
+    let lines: String = records.iter().map(line).collect();
+    format!("# {objects}, {} bytes\n{lines}", store.len())
+}
+
+fn line(record: &Record) -> String {
+    let mut line = format!(
+        "{:04X} maximum {} lcso {}",
+        record.object(),
+        record.maximum(),
+        names::state(record.lcso()).unwrap_or("(no state)")
+    );
+    for (index, name) in names::SLOTS.iter().enumerate() {
+        let text = expression::to_text(record.expression(index)).unwrap_or_default();
+        line.push_str(&match text.contains(' ') {
+            true => format!(" {name} \"{text}\""),
+            false => format!(" {name} {text}"),
+        });
+    }
+    if !record.data().is_empty() {
+        line.push_str(" data ");
+        line.push_str(&hex::spaced(record.data()));
+    }
+    line.push('\n');
+    line
+}
+
+#[cfg(test)]
+mod tests {
+    use super::*;
+    use crate::check;
+    use element::{Element, Session, FACTORY_STORE_SIZE};
+
+    const LINE: &str = "F1D0 maximum 140 lcso creation change \"LcsO < operational\" read always execute never data 01 02";
+
+    fn slip(text: &str) -> (usize, usize, String) {
+        let slips = to_store(text).unwrap_err();
+        (slips[0].line, slips[0].column, slips[0].why.clone())
+    }
+
+    #[test]
+    fn a_line_becomes_a_record() {
+        let store = to_store(LINE).unwrap();
+        assert!(check::is_well_formed(&store));
+        assert_eq!(store.len(), 236);
+        let records = record::records(&store);
+        assert_eq!(records[0].data(), [1, 2]);
+        assert_eq!(records[0].expression(2), [0xFF]);
+        assert_eq!(of_store(&store), format!("# 1 object, 236 bytes\n{LINE}\n"));
+    }
+
+    #[test]
+    fn the_factory_store_is_described() {
+        let mut store = vec![0; FACTORY_STORE_SIZE];
+        let mut session = Session::fresh();
+        Element::factory(&mut store, &mut session).unwrap();
+        assert_eq!(to_store(&of_store(&store)), Ok(store));
+    }
+
+    #[test]
+    fn every_way_to_write_a_line() {
+        let loose = "\r\n\t f1d0  MAXIMUM 140 LcsO 01 change \"lcso<07\" read \"always\" execute \"never\" data 0102#x\r\n";
+        assert_eq!(to_store(loose), to_store(LINE));
+        assert_eq!(to_store("# nothing\n\n"), Ok(vec![]));
+    }
+
+    /// A text, the line and the column of its first slip, and what is said of it.
+    type Told = (&'static str, usize, usize, &'static str);
+
+    const WHOLE: [Told; 7] = [
+        (
+            "F1D maximum 1",
+            1,
+            1,
+            "'F1D' stands here, expected an object number of four hex digits",
+        ),
+        (
+            "\n+1D0",
+            2,
+            1,
+            "'+1D0' stands here, expected an object number of four hex digits",
+        ),
+        ("F1D0 max 1", 1, 6, "'max' stands here, expected maximum"),
+        (
+            "F1D0 maximum 0",
+            1,
+            14,
+            "'0' stands here, expected a number from 1 to 1500",
+        ),
+        (
+            "F1D0 maximum 1501",
+            1,
+            14,
+            "'1501' stands here, expected a number from 1 to 1500",
+        ),
+        (
+            "F1D0 maximum 1",
+            1,
+            15,
+            "nothing stands here, expected lcso",
+        ),
+        (
+            "F1C2 maximum 1",
+            1,
+            1,
+            "object F1C2 is last error, which lives in the session, expected another number",
+        ),
+    ];
+
+    /// What is replaced in the line, by what, and the column and words that follow.
+    const REPLACED: [(&str, &str, usize, &str); 5] = [
+        (
+            "02",
+            "0",
+            94,
+            "half a byte: one hex digit stands alone, expected two to a byte",
+        ),
+        (
+            "140",
+            "1",
+            89,
+            "2 bytes of data, expected at most the maximum of 1",
+        ),
+        (
+            "always",
+            "maybe",
+            65,
+            "'maybe' stands here, expected always, never or an expression in quotes",
+        ),
+        (
+            "l\"",
+            "l",
+            39,
+            "this quote is not closed, expected another \" on the same line",
+        ),
+        (
+            "data",
+            "dada",
+            86,
+            "'dada' stands here, expected data or the end of the line",
+        ),
+    ];
+
+    #[test]
+    fn slips_have_line_and_column() {
+        for (text, line, column, why) in WHOLE {
+            assert_eq!(slip(text), (line, column, why.to_owned()), "{text}");
+        }
+        for (old, new, column, why) in REPLACED {
+            let text = LINE.replace(old, new);
+            assert_eq!(slip(&text), (1, column, why.to_owned()), "{text}");
+        }
+        let (line, column, why) = slip(&LINE.replace("operational", "ready"));
+        assert_eq!((line, column), (1, 47));
+        assert_eq!(
+            why,
+            format!("'ready' stands here, expected {}", names::STATES_EXPECTED)
+        );
+        let (line, column, why) = slip(&format!("{LINE}\n{LINE}"));
+        assert_eq!((line, column), (2, 1));
+        assert_eq!(why, "object F1D0 behind F1D0, expected a number above that");
+    }
+}

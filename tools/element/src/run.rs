@@ -1,0 +1,185 @@
+//! `run`: a list of commands on a kept element.
+use std::fs::File;
+use std::path::Path;
+
+use element::{Element, Session, LARGEST_ROOM};
+
+use crate::answer::Exchange;
+use crate::check;
+use crate::files;
+use crate::keep::{Kept, Place};
+use crate::list::{self, Entry};
+use crate::names;
+use crate::trouble::{Report, Status, Trouble};
+
+const REFUSED: u8 = 0xFF;
+
+/// How a list is run.
+#[derive(Clone, Copy, Debug, PartialEq, Eq)]
+pub struct Options {
+    /// Nothing is kept.
+    pub dry: bool,
+    /// A refused command gives status 1.
+    pub strict: bool,
+    /// Lines as `bench` prints them.
+    pub plain: bool,
+    /// The bytes of each command's room.
+    pub room: usize,
+}
+
+impl Default for Options {
+    fn default() -> Options {
+        Options {
+            dry: false,
+            strict: false,
+            plain: false,
+            room: LARGEST_ROOM,
+        }
+    }
+}
+
+/// `run FILE LIST`. What is shown is kept: the answers are printed only when the files are in their places.
+pub fn run(file: &Path, list: &Path, options: &Options) -> Result<Report, Trouble> {
+    let text = files::read_text(list)?;
+    let entries =
+        list::parse(&text).map_err(|slips| Trouble::slips(&files::text_name(list), &slips))?;
+    let place = Place::new(file);
+    let _held = place.hold(match options.dry {
+        true => File::lock_shared,
+        false => File::lock,
+    });
+    let mut kept = place.load()?;
+    let before = kept.store.clone();
+    let exchanges: Vec<Exchange> = entries
+        .iter()
+        .map(|entry| send(&mut kept, &entry.bytes, options.room))
+        .collect();
+    if !options.dry {
+        let changed = kept.store != before;
+        place.save(changed.then_some(&kept.store[..]), kept.session)?;
+    }
+    let judged = check::judged(&file.display().to_string(), &before);
+    Ok(report(file, &judged, &entries, &exchanges, &kept, options))
+}
+
+/// Sends one command, and learns a refusal's own number.
+pub fn send(kept: &mut Kept, command: &[u8], room: usize) -> Exchange {
+    let mut room = vec![0; room];
+    let answer = Element::new(&mut kept.store, &mut kept.session).send(command, &mut room);
+    let (outcome, response) = (answer.outcome, answer.response.to_vec());
+    let refused =
+        (response.first() == Some(&REFUSED)).then(|| own_number(kept, command, &mut room));
+    Exchange {
+        outcome,
+        response,
+        refused,
+        last_error: kept.session.error,
+    }
+}
+
+/// The last error may hold a higher number: the refused command is sent again on a session with a last error of 0. No judgment looks at the last error,
+/// and a refused command changes nothing else. The room is the same, since 0D looks at it.
+fn own_number(kept: &mut Kept, command: &[u8], room: &mut [u8]) -> u8 {
+    let mut again = Session {
+        error: 0,
+        ..kept.session
+    };
+    Element::new(&mut kept.store, &mut again).send(command, room);
+    again.error
+}
+
+fn report(
+    file: &Path,
+    judged: &Report,
+    entries: &[Entry],
+    exchanges: &[Exchange],
+    kept: &Kept,
+    options: &Options,
+) -> Report {
+    let refused = exchanges.iter().filter(|one| one.refused.is_some()).count();
+    let malformed = judged.status != Status::Done;
+    let status = match malformed || options.strict && refused > 0 {
+        true => Status::Differs,
+        false => Status::Done,
+    };
+    if options.plain {
+        let text = exchanges.iter().map(Exchange::plain).collect();
+        return Report { text, status };
+    }
+    let mut text = String::new();
+    if malformed {
+        text.push_str(&format!("{}Every command is refused.\n\n", judged.text));
+    }
+    for (entry, exchange) in entries.iter().zip(exchanges) {
+        text.push_str(&exchange.shown(entry));
+    }
+    text.push_str(&summary(exchanges, refused));
+    text.push_str(&format!("session: {}\n", names::session(kept.session)));
+    text.push_str(&match options.dry {
+        true => "nothing is kept (--dry)\n".into(),
+        false => format!("kept in {0} and {0}.session\n", file.display()),
+    });
+    Report { text, status }
+}
+
+fn summary(exchanges: &[Exchange], refused: usize) -> String {
+    let unanswered = exchanges.iter().filter(|one| one.outcome != 0).count();
+    let done = exchanges.len() - refused - unanswered;
+    let mut text = format!(
+        "{}: {done} done, {refused} refused",
+        names::count(exchanges.len(), "command")
+    );
+    if unanswered > 0 {
+        text.push_str(&format!(", {unanswered} without room for a response"));
+    }
+    text.push('\n');
+    text
+}
+
+#[cfg(test)]
+mod tests {
+    use super::*;
+    use crate::hex;
+    use element::FACTORY_STORE_SIZE;
+
+    fn factory() -> Kept {
+        let mut kept = Kept {
+            store: vec![0; FACTORY_STORE_SIZE],
+            session: Session::fresh(),
+        };
+        Element::factory(&mut kept.store, &mut kept.session).unwrap();
+        kept
+    }
+
+    fn said(kept: &mut Kept, text: &str) -> Exchange {
+        send(kept, &hex::bytes(text, 1).unwrap(), LARGEST_ROOM)
+    }
+
+    const OPEN: &str = "70 00 00 10 D2 76 00 00 04 47 65 6E 41 75 74 68 41 70 70 6C";
+
+    #[test]
+    fn a_refusals_own_number_is_learned() {
+        let mut kept = factory();
+        said(&mut kept, OPEN);
+        let past = said(&mut kept, "02 00 00 05 F1 D0 00 8C 01");
+        assert_eq!((past.refused, past.last_error), (Some(8), 8));
+        let store = kept.store.clone();
+        let missing = said(&mut kept, "01 01 00 02 F2 00");
+        assert_eq!((missing.refused, missing.last_error), (Some(1), 8));
+        assert_eq!(kept.store, store);
+        assert_eq!(kept.session.error, 8);
+        let flushed = said(&mut kept, "81 01 00 02 F2 00");
+        assert_eq!((flushed.refused, flushed.last_error), (Some(1), 1));
+    }
+
+    #[test]
+    fn the_room_counts() {
+        let mut kept = factory();
+        said(&mut kept, OPEN);
+        let metadata = hex::bytes("01 01 00 02 F1 D0", 1).unwrap();
+        assert_eq!(send(&mut kept, &metadata, 27).refused, Some(0x0D));
+        assert_eq!(send(&mut kept, &metadata, 28).refused, None);
+        let none = send(&mut kept, &metadata, 3);
+        assert_eq!((none.outcome, none.plain().as_str()), (1, "1 \n"));
+    }
+}

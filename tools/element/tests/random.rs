@@ -1,0 +1,225 @@
+//! Random bytes and texts: no panic, library and explainer agree, and what is written is read back.
+mod common;
+
+use common::Numbers;
+use element::Session;
+use element_tool::keep::Kept;
+use element_tool::{check, command, description, expression, faults, list, metadata, record, run};
+
+/// The words of both texts, and some that belong to none.
+const WORDS: [&str; 32] = [
+    "F1D0",
+    "F1E0",
+    "E0C0",
+    "maximum",
+    "140",
+    "1501",
+    "lcso",
+    "creation",
+    "07",
+    "change",
+    "read",
+    "execute",
+    "always",
+    "never",
+    "data",
+    "\"",
+    "LcsG",
+    "LcsO",
+    "=",
+    "<",
+    ">",
+    "and",
+    "or",
+    "operational",
+    "#",
+    "01",
+    "é",
+    "\u{0}",
+    "0",
+    "empty",
+    "\r",
+    "\u{FEFF}",
+];
+
+fn agree(store: &[u8]) -> bool {
+    let well_formed = check::is_well_formed(store);
+    let faults = faults::faults(store);
+    assert_eq!(faults.is_empty(), well_formed, "{faults:?} {store:02X?}");
+    well_formed
+}
+
+#[test]
+fn descriptions_go_both_ways() {
+    let mut numbers = Numbers::new(1);
+    for _ in 0..300 {
+        let text = common::description(&mut numbers);
+        let store = description::to_store(&text).unwrap();
+        if store.is_empty() {
+            continue;
+        }
+        assert!(agree(&store), "{text}");
+        let written = description::of_store(&store);
+        let (_, lines) = written.split_once('\n').unwrap();
+        assert_eq!(lines, text);
+    }
+}
+
+#[test]
+fn library_and_explainer_agree_on_changed_stores() {
+    let mut numbers = Numbers::new(2);
+    let mut well_formed = 0;
+    for _ in 0..60 {
+        let text = common::description(&mut numbers);
+        let store = description::to_store(&text).unwrap();
+        for _ in 0..300 {
+            let mut changed = store.clone();
+            change(&mut numbers, &mut changed);
+            well_formed += usize::from(agree(&changed));
+        }
+    }
+    assert!((500..17000).contains(&well_formed), "{well_formed}");
+}
+
+/// Changes some bytes, mostly of the first 96 of a record, or cuts or lengthens the store.
+fn change(numbers: &mut Numbers, store: &mut Vec<u8>) {
+    let heads: Vec<usize> = record::records(store).iter().map(|r| r.place).collect();
+    for _ in 0..1 + numbers.below(2) {
+        let near = match heads.is_empty() {
+            true => 0,
+            false => numbers.one(&heads) + numbers.below(100),
+        };
+        let special = [
+            0, 1, 3, 4, 7, 0x0F, 0x1B, 0x70, 0xE0, 0xE1, 0xFA, 0xFC, 0xFD, 0xFE, 0xFF,
+        ];
+        let byte = match numbers.below(3) {
+            0 => numbers.byte(),
+            _ => numbers.one(&special),
+        };
+        if let Some(place) = store.get_mut(near) {
+            *place = byte;
+        }
+    }
+    match numbers.below(20) {
+        0 => store.truncate(numbers.below(store.len() + 1)),
+        1 => store.extend(numbers.bytes(120)),
+        2 => store.extend(store.clone()),
+        _ => {}
+    }
+}
+
+#[test]
+fn library_and_explainer_agree_on_random_bytes() {
+    let mut numbers = Numbers::new(3);
+    for _ in 0..3000 {
+        let mut bytes = numbers.bytes(600);
+        if numbers.below(2) == 0 {
+            let front = [
+                0x61,
+                0,
+                1,
+                0,
+                numbers.byte(),
+                numbers.byte(),
+                1,
+                0,
+                0,
+                0,
+                1,
+                0,
+            ];
+            bytes.splice(0..0, front);
+        }
+        agree(&bytes);
+    }
+}
+
+#[test]
+fn expressions_go_both_ways() {
+    let mut numbers = Numbers::new(4);
+    for _ in 0..5000 {
+        let text = common::expression(&mut numbers);
+        let bytes = expression::from_text(&text, 1).unwrap();
+        assert_eq!(expression::to_text(&bytes), Ok(text));
+    }
+    for _ in 0..20000 {
+        let count = numbers.below(32);
+        let bytes: Vec<u8> = (0..count)
+            .map(|_| {
+                numbers.one(&[
+                    0x70, 0xE0, 0xE1, 0xFA, 0xFB, 0xFC, 0xFD, 0xFE, 0x00, 0xFF, 7,
+                ])
+            })
+            .collect();
+        if let Ok(text) = expression::to_text(&bytes) {
+            assert_eq!(expression::from_text(&text, 1), Ok(bytes));
+        }
+    }
+}
+
+#[test]
+fn random_texts_are_read_or_told() {
+    let mut numbers = Numbers::new(5);
+    for _ in 0..20000 {
+        let text = numbers.text(&WORDS);
+        for slip in description::to_store(&text).err().into_iter().flatten() {
+            assert!(slip.line >= 1 && slip.column >= 1, "{slip:?}");
+        }
+        for slip in list::parse(&text).err().into_iter().flatten() {
+            assert!(slip.line >= 1 && slip.column >= 1, "{slip:?}");
+        }
+        let _ = expression::from_text(&text, 1);
+        let noise = numbers.bytes(200);
+        let _ = list::parse(&String::from_utf8_lossy(&noise));
+        let _ = description::to_store(&String::from_utf8_lossy(&noise));
+    }
+}
+
+#[test]
+fn random_commands_are_told() {
+    let mut numbers = Numbers::new(6);
+    for _ in 0..20000 {
+        let mut bytes = numbers.bytes(40);
+        if let [cmd, param, high, low, ..] = bytes.as_mut_slice() {
+            *cmd = numbers.one(&[1, 2, 0x70, 0x71, 0x81, 0x82, 0x55]);
+            *param = numbers.one(&[0, 1, 0x40, 2]);
+            (*high, *low) = (0, numbers.byte());
+        }
+        assert!(!command::in_words(&bytes).is_empty());
+        assert!(!metadata::in_words(&bytes).is_empty());
+    }
+}
+
+/// On any store, session and room: a refusal has a number, and it changes no byte of the store.
+#[test]
+fn random_commands_are_run() {
+    let mut numbers = Numbers::new(7);
+    let text = common::description(&mut numbers);
+    let first = description::to_store(&text).unwrap();
+    let mut kept = Kept {
+        store: first,
+        session: Session {
+            opened: 1,
+            ..Session::fresh()
+        },
+    };
+    let objects: Vec<u16> = record::records(&kept.store)
+        .iter()
+        .map(|r| r.object())
+        .collect();
+    for _ in 0..20000 {
+        let [high, low] = numbers.one(&objects).to_be_bytes();
+        let content = numbers.bytes(12);
+        let mut bytes = vec![numbers.one(&[1, 2, 0x81]), numbers.one(&[0, 1, 0x40]), 0];
+        bytes.push(2 + content.len() as u8);
+        bytes.extend([high, low]);
+        bytes.extend(content);
+        let before = kept.store.clone();
+        let exchange = run::send(&mut kept, &bytes, numbers.one(&[0, 3, 4, 20, 1504]));
+        if let Some(number) = exchange.refused {
+            assert!(element::Refusal::from_number(number).is_some(), "{number}");
+            assert_eq!(kept.store, before);
+            assert!(exchange.last_error >= number);
+        }
+    }
+}
