@@ -16,7 +16,6 @@ enum {
     FLASH = PERSIST_COPIES * PERSIST_PAGES * FLASH_PAGE,
     STORE = ELEMENT_FACTORY_STORE_SIZE,
     LARGE = 1500,
-    LARGE_AT = 2832 + 96, /* where F1E0's data stands in the factory store */
     FAR_APART = 251       /* the stride of two cuts in a row */
 };
 
