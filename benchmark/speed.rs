@@ -30,9 +30,12 @@ fn is_short() -> bool {
     env::args().nth(1).as_deref() == Some("short")
 }
 
-/// The rounds of a list of commands, and of a table that is drawn.
-const LIST_ROUNDS: usize = 11;
-const DRAWN_ROUNDS: usize = 41;
+/// The rounds of a list of one kind, and of a table that is drawn.
+const KIND_ROUNDS: usize = 11;
+const DRAWN_ROUNDS: usize = 101;
+
+/// The commands of a list by size: all lists of the table stay in the processor's memory.
+const SIZED_COMMANDS: usize = 1_000;
 
 /// What a list leaves: store, session, room, and the sum of the outcomes.
 #[derive(PartialEq)]
@@ -148,7 +151,7 @@ fn rounds(rows: &[Timed], count: usize) -> Vec<[f64; 3]> {
 
 fn heading(title: &str, first: &str) {
     println!("\n{title}\n");
-    println!("| {first} | ours, ns | reference, ns | ours / reference |");
+    println!("| {first} | library, ns | reference, ns | library / reference |");
     println!("|---|---|---|---|");
 }
 
@@ -179,20 +182,40 @@ fn same((time, after): (f64, Left), left: &Left) -> f64 {
     time
 }
 
-/// The mixed list, whose times it gives, then a list of each kind.
-fn kinds(title: &str, name: &'static str, begin: &Beginning) -> Pair {
+/// A store to measure on: its heading, its name in a picture, and the beginning.
+struct Measured {
+    title: &'static str,
+    name: &'static str,
+    begin: Beginning,
+}
+
+/// The mixed list on each store.
+fn mixed(stores: &[Measured]) -> Vec<Pair> {
+    let random = &mut Random::new(1);
+    heading("10,000 commands of every kind", "store");
+    let mut lists = Vec::new();
+    for store in stores {
+        lists.push(lists::mixed(&store.begin, random));
+    }
+    let mut rows = Vec::new();
+    for (store, list) in stores.iter().zip(&lists) {
+        rows.push(over(store.title.to_string(), 0, list, &store.begin));
+    }
+    let names = stores.iter().map(|store| store.name);
+    let pair = |(name, (_, ours, theirs))| Pair { name, ours, theirs };
+    names.zip(measure(&rows, DRAWN_ROUNDS)).map(pair).collect()
+}
+
+/// A list of each kind.
+fn kinds(title: &str, begin: &Beginning) {
     let random = &mut Random::new(1);
     heading(title, "commands");
-    let list = lists::mixed(begin, random);
-    let mixed = over("**all kinds, mixed**".to_string(), 0, &list, begin);
-    let (_, ours, theirs) = measure(&[mixed], LIST_ROUNDS)[0];
     for lists::Row { name, kind, code } in ROWS {
         let from = kind.begin(begin);
         let list = lists::of_kind(kind, &from, random);
         expect(name, &list, &from, code);
-        measure(&[over(name.to_string(), 0, &list, &from)], LIST_ROUNDS);
+        measure(&[over(name.to_string(), 0, &list, &from)], KIND_ROUNDS);
     }
-    Pair { name, ours, theirs }
 }
 
 /// The names of the lines by store size, in the order of the rows of a count.
@@ -250,11 +273,11 @@ fn sizes(begin: &Beginning) -> [Series; 2] {
     let (read, written) = (large(&begin.read), large(&begin.written));
     let mut made = Vec::new();
     for length in [0, 16, 64, 256, 1_024, 1_500] {
-        let commands = (0..lists::COMMANDS).map(|_| lists::get_data(read, length, random));
+        let commands = (0..SIZED_COMMANDS).map(|_| lists::get_data(read, length, random));
         made.push(("get", length, with_room(commands)));
     }
     for length in [1, 16, 64, 256, 1_024, 1_500] {
-        let commands = (0..lists::COMMANDS).map(|_| lists::write(0x00, written, length, random));
+        let commands = (0..SIZED_COMMANDS).map(|_| lists::write(0x00, written, length, random));
         made.push(("write", length, with_room(commands)));
     }
     let rows: Vec<Timed> = made
@@ -295,23 +318,28 @@ fn draw(mixed: &[Pair], checked: &[Series], sized: &[Series]) -> io::Result<()> 
 
 fn main() {
     let random = &mut Random::new(4);
-    let factory = stores::factory(random);
-    let full = stores::full(stores::SHORT_ONES, random);
-    let long = stores::full(stores::LONG_ONES, random);
-    let mixed = [
-        kinds(
-            "Factory store: 14 records, 6,024 bytes",
-            "factory",
-            &factory,
-        ),
-        kinds("Full store: 32 records, 16,384 bytes", "full", &full),
-        kinds(
-            "Full store with expressions of 27 bytes",
-            "full, long expressions",
-            &long,
-        ),
+    let stores = [
+        Measured {
+            title: "factory: 14 records, 6,024 bytes",
+            name: "factory",
+            begin: stores::factory(random),
+        },
+        Measured {
+            title: "full: 32 records, 16,384 bytes",
+            name: "full",
+            begin: stores::full(stores::SHORT_ONES, random),
+        },
+        Measured {
+            title: "full, with expressions of 27 bytes",
+            name: "full, long expressions",
+            begin: stores::full(stores::LONG_ONES, random),
+        },
     ];
-    let (checked, sized) = (checks(), sizes(&factory));
+    let mixed = mixed(&stores);
+    let (checked, sized) = (checks(), sizes(&stores[0].begin));
+    for store in &stores {
+        kinds(&format!("Each kind alone, {}", store.title), &store.begin);
+    }
     if !is_short() {
         draw(&mixed, &checked, &sized).expect("the pictures cannot be written to docs/pictures");
     }
