@@ -3,7 +3,7 @@
 //! Both sides run the same lists from the same stores and sessions, by turns. Every figure is the median of the rounds,
 //! in time of the processor, so that other programs disturb it little. A difference between the sides ends the run.
 //!
-//! usage: speed          11 rounds; also draws the pictures in docs/pictures
+//! usage: speed          all rounds; also draws the pictures in docs/pictures
 //!        speed short    one round, to see that both sides do the same
 
 mod clock;
