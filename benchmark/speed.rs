@@ -3,32 +3,39 @@
 //! Both sides run the same lists from the same stores and sessions, by turns. Every figure is the median of the rounds,
 //! in time of the processor, so that other programs disturb it little. A difference between the sides ends the run.
 //!
-//! usage: speed          11 rounds
+//! usage: speed          all rounds; also draws the pictures in docs/pictures
 //!        speed short    one round, to see that both sides do the same
 
 mod clock;
 mod library;
 mod lists;
+mod pictures;
 mod sides;
 mod stores;
 
-use std::env;
 use std::hint::black_box;
+use std::rc::Rc;
+use std::{env, fs, io};
 
 use reference::generator::random::Random;
 use reference::Session;
 
 use clock::Clock;
 use lists::{List, ROOM, ROWS};
+use pictures::{Pair, Point, Scale, Series};
 use sides::{Ours, Reference, Side};
 use stores::{Beginning, Object, LARGEST};
 
-fn round_count() -> usize {
-    match env::args().nth(1).as_deref() {
-        Some("short") => 1,
-        _ => 11,
-    }
+fn is_short() -> bool {
+    env::args().nth(1).as_deref() == Some("short")
 }
+
+/// The rounds of a list of one kind, and of a table that is drawn.
+const KIND_ROUNDS: usize = 11;
+const DRAWN_ROUNDS: usize = 101;
+
+/// The commands of a list by size: all lists of the table stay in the processor's memory.
+const SIZED_COMMANDS: usize = 1_000;
 
 /// What a list leaves: store, session, room, and the sum of the outcomes.
 #[derive(PartialEq)]
@@ -110,83 +117,143 @@ fn median(mut values: Vec<f64>) -> f64 {
     values[values.len() / 2]
 }
 
+/// A row to be measured: each side once, in nanoseconds.
+struct Timed<'a> {
+    name: String,
+    size: usize,
+    ours: Box<dyn Fn() -> f64 + 'a>,
+    theirs: Box<dyn Fn() -> f64 + 'a>,
+}
+
 /// The medians of both sides and of the ratio of each round; the sides take turns at being first.
-fn rounds(mut ours: impl FnMut() -> f64, mut theirs: impl FnMut() -> f64) -> [f64; 3] {
-    let mut times = [Vec::new(), Vec::new(), Vec::new()];
-    for round in 0..round_count() {
-        let (a, b) = match round % 2 {
-            0 => {
-                let a = ours();
-                (a, theirs())
-            }
-            _ => {
-                let b = theirs();
-                (ours(), b)
-            }
-        };
-        times[0].push(a);
-        times[1].push(b);
-        times[2].push(a / b);
+/// All rows are measured in each round, so that a slow while of the machine falls on all of them.
+fn rounds(rows: &[Timed], count: usize) -> Vec<[f64; 3]> {
+    let mut times = vec![[const { Vec::new() }; 3]; rows.len()];
+    for round in 0..if is_short() { 1 } else { count } {
+        for (row, times) in rows.iter().zip(&mut times) {
+            let (a, b) = match round % 2 {
+                0 => {
+                    let a = (row.ours)();
+                    (a, (row.theirs)())
+                }
+                _ => {
+                    let b = (row.theirs)();
+                    ((row.ours)(), b)
+                }
+            };
+            times[0].push(a);
+            times[1].push(b);
+            times[2].push(a / b);
+        }
     }
-    times.map(median)
+    times.into_iter().map(|all| all.map(median)).collect()
 }
 
 fn heading(title: &str, first: &str) {
     println!("\n{title}\n");
-    println!("| {first} | ours, ns | reference, ns | ours / reference |");
+    println!("| {first} | library, ns | reference, ns | library / reference |");
     println!("|---|---|---|---|");
 }
 
-fn row(name: &str, [ours, theirs, ratio]: [f64; 3]) {
-    println!("| {name} | {ours:.0} | {theirs:.0} | {ratio:.2} |");
-}
-
-/// One row: the two sides over a list, which must leave the same.
-fn measure(name: &str, list: &List, begin: &Beginning) {
-    compare(name, list, begin);
-    let (_, left) = run::<Reference>(list, begin);
-    let side = |(time, after): (f64, Left)| {
-        assert!(after == left, "{name}: what a side leaves differs");
-        time
+/// Measures the rows and prints them; gives size, library and reference of each.
+fn measure(rows: &[Timed], count: usize) -> Vec<Point> {
+    let print = |(row, [ours, theirs, ratio]): (&Timed, [f64; 3])| {
+        println!("| {} | {ours:.0} | {theirs:.0} | {ratio:.2} |", row.name);
+        (row.size as f64, ours, theirs)
     };
-    row(
-        name,
-        rounds(
-            || side(run::<Ours>(list, begin)),
-            || side(run::<Reference>(list, begin)),
-        ),
-    );
+    rows.iter().zip(rounds(rows, count)).map(print).collect()
 }
 
-/// The mixed list, then a list of each kind.
+/// A row of a list, after which both sides must leave the same.
+fn over<'a>(name: String, size: usize, list: &'a List, begin: &'a Beginning) -> Timed<'a> {
+    compare(&name, list, begin);
+    let left = Rc::new(run::<Reference>(list, begin).1);
+    let [here, there] = [left.clone(), left];
+    Timed {
+        name,
+        size,
+        ours: Box::new(move || same(run::<Ours>(list, begin), &here)),
+        theirs: Box::new(move || same(run::<Reference>(list, begin), &there)),
+    }
+}
+
+fn same((time, after): (f64, Left), left: &Left) -> f64 {
+    assert!(after == *left, "what a side leaves differs");
+    time
+}
+
+/// A store to measure on: its heading, its name in a picture, and the beginning.
+struct Measured {
+    title: &'static str,
+    name: &'static str,
+    begin: Beginning,
+}
+
+/// The mixed list on each store.
+fn mixed(stores: &[Measured]) -> Vec<Pair> {
+    let random = &mut Random::new(1);
+    heading("10,000 commands of every kind", "store");
+    let mut lists = Vec::new();
+    for store in stores {
+        lists.push(lists::mixed(&store.begin, random));
+    }
+    let mut rows = Vec::new();
+    for (store, list) in stores.iter().zip(&lists) {
+        rows.push(over(store.title.to_string(), 0, list, &store.begin));
+    }
+    let names = stores.iter().map(|store| store.name);
+    let pair = |(name, (_, ours, theirs))| Pair { name, ours, theirs };
+    names.zip(measure(&rows, DRAWN_ROUNDS)).map(pair).collect()
+}
+
+/// A list of each kind.
 fn kinds(title: &str, begin: &Beginning) {
     let random = &mut Random::new(1);
     heading(title, "commands");
-    measure("**all kinds, mixed**", &lists::mixed(begin, random), begin);
     for lists::Row { name, kind, code } in ROWS {
         let from = kind.begin(begin);
         let list = lists::of_kind(kind, &from, random);
         expect(name, &list, &from, code);
-        measure(name, &list, &from);
+        measure(&[over(name.to_string(), 0, &list, &from)], KIND_ROUNDS);
+    }
+}
+
+/// The names of the lines by store size, in the order of the rows of a count.
+const SHAPES: [&str; 3] = [
+    "maximum 16, none in use",
+    "largest maximum, none in use",
+    "largest maximum, all in use",
+];
+
+/// A row of a store's check alone, by its records.
+fn checked(count: usize, maximum: usize, in_use: bool, random: &mut Random) -> Timed<'static> {
+    let store = Rc::new(stores::alike(count, maximum, in_use, random));
+    let [here, there] = [store.clone(), store];
+    let used = if in_use { "all" } else { "none" };
+    Timed {
+        name: format!("{count} × maximum {maximum}, {used} in use"),
+        size: count,
+        ours: Box::new(move || check::<Ours>(&here)),
+        theirs: Box::new(move || check::<Reference>(&there)),
     }
 }
 
 /// The time of a store's check alone, by its records.
-fn checks() {
+fn checks() -> [Series; 3] {
     let random = &mut Random::new(2);
+    let mut rows = Vec::new();
     heading("Check of a store alone", "records");
     for count in [1, 2, 4, 8, 16, 32] {
         let large = (16_384 / count - 96).min(LARGEST);
         for (maximum, in_use) in [(16, false), (large, false), (large, true)] {
-            let store = stores::alike(count, maximum, in_use, random);
-            let used = if in_use { "all" } else { "none" };
-            let name = format!("{count} × maximum {maximum}, {used} in use");
-            row(
-                &name,
-                rounds(|| check::<Ours>(&store), || check::<Reference>(&store)),
-            );
+            rows.push(checked(count, maximum, in_use, random));
         }
     }
+    let points = measure(&rows, DRAWN_ROUNDS);
+    [0, 1, 2].map(|shape| Series {
+        name: SHAPES[shape],
+        points: points.iter().copied().skip(shape).step_by(3).collect(),
+    })
 }
 
 fn check<S: Side>(store: &[u8]) -> f64 {
@@ -199,31 +266,81 @@ fn check<S: Side>(store: &[u8]) -> f64 {
 }
 
 /// The time of a command by the bytes that it reads or writes, at the largest objects of the factory store.
-fn sizes(begin: &Beginning) {
+fn sizes(begin: &Beginning) -> [Series; 2] {
     let random = &mut Random::new(3);
     heading("Bytes of an answer or a write, factory store", "command");
     let large = |objects: &[Object]| objects[objects.len() - 1];
     let (read, written) = (large(&begin.read), large(&begin.written));
+    let mut made = Vec::new();
     for length in [0, 16, 64, 256, 1_024, 1_500] {
-        let commands = (0..lists::COMMANDS).map(|_| lists::get_data(read, length, random));
-        let list = commands.map(|command| (command, ROOM)).collect();
-        measure(&format!("get of {length} bytes"), &list, begin);
+        let commands = (0..SIZED_COMMANDS).map(|_| lists::get_data(read, length, random));
+        made.push(("get", length, with_room(commands)));
     }
     for length in [1, 16, 64, 256, 1_024, 1_500] {
-        let commands = (0..lists::COMMANDS).map(|_| lists::write(0x00, written, length, random));
-        let list = commands.map(|command| (command, ROOM)).collect();
-        measure(&format!("write of {length} bytes"), &list, begin);
+        let commands = (0..SIZED_COMMANDS).map(|_| lists::write(0x00, written, length, random));
+        made.push(("write", length, with_room(commands)));
     }
+    let rows: Vec<Timed> = made
+        .iter()
+        .map(|(name, length, list)| over(format!("{name} of {length} bytes"), *length, list, begin))
+        .collect();
+    let points = measure(&rows, DRAWN_ROUNDS);
+    let (gets, writes) = points.split_at(6);
+    [("get", gets), ("write", writes)].map(|(name, points)| Series {
+        name,
+        points: points.to_vec(),
+    })
+}
+
+fn with_room(commands: impl Iterator<Item = Vec<u8>>) -> List {
+    commands.map(|command| (command, ROOM)).collect()
+}
+
+fn draw(mixed: &[Pair], checked: &[Series], sized: &[Series]) -> io::Result<()> {
+    let title = "A command of a mixed list, by store";
+    let text = pictures::bars(title, "10,000 commands of every kind", mixed);
+    fs::write("docs/pictures/mixed.svg", text)?;
+    let title = "Check of a store, by its records";
+    let scale = Scale {
+        most: 32.0,
+        step: 8.0,
+    };
+    let text = pictures::lines(title, "records in the store", scale, checked);
+    fs::write("docs/pictures/check.svg", text)?;
+    let title = "A command, by the bytes that it reads or writes";
+    let scale = Scale {
+        most: 1_500.0,
+        step: 250.0,
+    };
+    let text = pictures::lines(title, "bytes read or written, factory store", scale, sized);
+    fs::write("docs/pictures/answer.svg", text)
 }
 
 fn main() {
     let random = &mut Random::new(4);
-    let factory = stores::factory(random);
-    let full = stores::full(stores::SHORT_ONES, random);
-    let long = stores::full(stores::LONG_ONES, random);
-    kinds("Factory store: 14 records, 6,024 bytes", &factory);
-    kinds("Full store: 32 records, 16,384 bytes", &full);
-    kinds("Full store with expressions of 27 bytes", &long);
-    checks();
-    sizes(&factory);
+    let stores = [
+        Measured {
+            title: "factory: 14 records, 6,024 bytes",
+            name: "factory",
+            begin: stores::factory(random),
+        },
+        Measured {
+            title: "full: 32 records, 16,384 bytes",
+            name: "full",
+            begin: stores::full(stores::SHORT_ONES, random),
+        },
+        Measured {
+            title: "full, with expressions of 27 bytes",
+            name: "full, long expressions",
+            begin: stores::full(stores::LONG_ONES, random),
+        },
+    ];
+    let mixed = mixed(&stores);
+    let (checked, sized) = (checks(), sizes(&stores[0].begin));
+    for store in &stores {
+        kinds(&format!("Each kind alone, {}", store.title), &store.begin);
+    }
+    if !is_short() {
+        draw(&mixed, &checked, &sized).expect("the pictures cannot be written to docs/pictures");
+    }
 }

@@ -1,0 +1,320 @@
+/*
+ * Cuts the power at every byte that examples/persist.c writes or erases, starts again and loads: the state before or after, whole, is found. Then
+ * the same with a single copy and no marker, which is torn.
+ *
+ * usage: persist [STRIDE]      every byte, or every STRIDE-th
+ */
+#include <setjmp.h>
+#include <stdarg.h>
+#include <stdio.h>
+#include <stdlib.h>
+#include <string.h>
+
+#include "persist.h"
+
+enum {
+    FLASH = PERSIST_COPIES * PERSIST_PAGES * FLASH_PAGE,
+    STORE = ELEMENT_FACTORY_STORE_SIZE,
+    LARGE = 1500,
+    FAR_APART = 251       /* the stride of two cuts in a row */
+};
+
+static void expect(bool held, const char *what, ...)
+{
+    if (held)
+        return;
+    va_list rest;
+    va_start(rest, what);
+    fputs("does not hold: ", stdout);
+    vprintf(what, rest);
+    putchar('\n');
+    va_end(rest);
+    exit(1);
+}
+
+/* The flash: a byte array whose power ends after so many steps. A step is a byte written or erased. */
+
+static uint8_t flash[FLASH];
+static long power;
+static bool torn; /* the byte at hand, or the rest of the page, is then left with some of its bits changed */
+static jmp_buf off;
+
+static uint8_t some_bits(void)
+{
+    static uint32_t seed = 1;
+    seed = seed * 1664525 + 1013904223;
+    return (uint8_t)(seed >> 24);
+}
+
+void flash_write(size_t at, uint8_t byte)
+{
+    expect(flash[at] == FLASH_ERASED, "byte %zu of the flash is erased when it is written", at);
+    if (power-- == 0) {
+        if (torn)
+            flash[at] = byte | some_bits();
+        longjmp(off, 1);
+    }
+    flash[at] = byte;
+}
+
+void flash_erase(size_t page)
+{
+    uint8_t *start = flash + page * FLASH_PAGE;
+    for (size_t i = 0; i < FLASH_PAGE; i++) {
+        if (power-- == 0) {
+            for (; torn && i < FLASH_PAGE; i++)
+                start[i] |= some_bits();
+            longjmp(off, 1);
+        }
+        start[i] = FLASH_ERASED;
+    }
+}
+
+uint8_t flash_read(size_t at)
+{
+    return flash[at];
+}
+
+/* States of the element, made by commands. */
+
+typedef struct element {
+    uint8_t store[STORE];
+    element_session session;
+} element;
+
+static element older, old, new, now;
+static uint8_t room[ELEMENT_LARGEST_ROOM];
+
+static void send(element *e, const void *command, size_t size)
+{
+    expect(element_execute(command, size, e->store, STORE, &e->session, room, sizeof room) == ELEMENT_ANSWERED && room[0] == ELEMENT_STATUS_DONE,
+        "a command of the test is done");
+}
+
+/* All 1,500 bytes of F1E0, and a fare in F1D0. */
+static void fill(element *e, uint8_t byte)
+{
+    uint8_t command[8 + LARGE] = {ELEMENT_SET, ELEMENT_DATA, (4 + LARGE) / 256, (4 + LARGE) % 256, 0xF1, 0xE0, 0, 0};
+    uint8_t fare[] = {ELEMENT_SET, ELEMENT_DATA, 0, 5, 0xF1, 0xD0, 0, 0, byte};
+    memset(command + 8, byte, LARGE);
+    send(e, command, sizeof command);
+    send(e, fare, sizeof fare);
+}
+
+static void set_state(element *e, unsigned object, uint8_t value)
+{
+    uint8_t command[] = {ELEMENT_SET, ELEMENT_DATA, 0, 5, (uint8_t)(object >> 8), (uint8_t)object, 0, 0, value};
+    send(e, command, sizeof command);
+}
+
+/* Each state is open, and has a last error: neither is kept. */
+static void make_states(void)
+{
+    static const uint8_t open[] = "\x70\x00\x00\x10" ELEMENT_IDENTIFIER;
+    older.session = element_fresh_session();
+    element_make_factory_store(older.store, STORE);
+    send(&older, open, sizeof open - 1);
+    fill(&older, 0x11);
+    older.session.error = ELEMENT_ACCESS_DENIED;
+    old = older;
+    fill(&old, 0x22);
+    set_state(&old, ELEMENT_LCSG, ELEMENT_INITIALISATION);
+    new = old;
+    fill(&new, 0x33);
+    set_state(&new, ELEMENT_LCSA, ELEMENT_INITIALISATION);
+}
+
+/* What was loaded is all of that state, as it is after a reset. */
+static bool is_now(const element *e)
+{
+    return memcmp(now.store, e->store, STORE) == 0 && now.session.opened == 0 && now.session.error == 0 && now.session.lcsg == e->session.lcsg
+        && now.session.lcsa == e->session.lcsa;
+}
+
+/* A save that ends, or is cut after so many steps; returns whether it ended. */
+
+static void save(const element *e)
+{
+    persist_save(e->store, &e->session);
+}
+
+/* Page by page where the store stands, as a host without copies would. */
+static void save_single(const element *e)
+{
+    for (size_t i = 0; i < STORE; i++) {
+        if (i % FLASH_PAGE == 0)
+            flash_erase(i / FLASH_PAGE);
+        flash_write(i, e->store[i]);
+    }
+}
+
+static bool save_until(long steps, void (*by)(const element *), const element *e)
+{
+    power = steps;
+    if (setjmp(off) != 0)
+        return false;
+    by(e);
+    return true;
+}
+
+static void save_whole(void (*by)(const element *), const element *e)
+{
+    expect(save_until(-1, by, e), "a save with power to its end ends");
+}
+
+/* The steps that a save takes from the flash as it is. */
+static long steps_of(void (*by)(const element *), const element *e)
+{
+    const long many = 1000000;
+    expect(save_until(many, by, e), "a save ends");
+    return many - power;
+}
+
+/* Starts again: nothing is left in memory. */
+static void restart(void)
+{
+    memset(&now, 0xEE, sizeof now);
+    expect(persist_load(now.store, &now.session), "a state is loaded");
+    expect(element_check_store(now.store, STORE), "the loaded store is well formed");
+}
+
+/* Two copies and a marker. */
+
+typedef struct counts {
+    unsigned olds, news;
+} counts;
+
+static void cut_at(const uint8_t *before, long steps, counts *c)
+{
+    memcpy(flash, before, FLASH);
+    bool ended = save_until(steps, save, &new);
+    restart();
+    expect(is_now(&old) || is_now(&new), "the old or the new state, whole, after a cut at step %ld", steps);
+    expect(is_now(&new) || !ended, "the new state after a save that ended");
+    expect(is_now(&old) || ended || torn, "the old state after a cut at step %ld", steps);
+    c->olds += is_now(&old);
+    c->news += is_now(&new);
+}
+
+/* The next save after a cut, cut at some bytes and whole. */
+static void cut_again(const uint8_t *before, long steps, long total, counts *c)
+{
+    static uint8_t after[FLASH];
+    cut_at(before, steps, &(counts){0, 0});
+    memcpy(after, flash, FLASH);
+    for (long again = 0; again < total; again += FAR_APART)
+        cut_at(after, again, c);
+    cut_at(after, total, c);
+}
+
+static void check_copies(const char *name, long stride)
+{
+    static uint8_t before[FLASH];
+    const char *which = stride == 1 ? "each" : "some";
+    memcpy(before, flash, FLASH);
+    long total = steps_of(save, &new);
+    counts once = {0, 0}, twice = {0, 0};
+    for (int way = 0; way < 2; way++) {
+        torn = way == 1;
+        for (long steps = 0; steps < total; steps += stride)
+            cut_at(before, steps, &once);
+        cut_at(before, total, &once);
+        for (long steps = 0; steps < total; steps += FAR_APART * stride)
+            cut_again(before, steps, total, &twice);
+    }
+    printf("%s, of %ld bytes erased or written, cut at %s, before and within the byte: the old state %u times, the new one %u times, whole\n", name, total,
+        which, once.olds, once.news);
+    printf("%s, cut twice in a row, at some bytes: the old state %u times, the new one %u times, whole\n", name, twice.olds, twice.news);
+}
+
+/* A single copy without a marker. */
+
+typedef struct seen {
+    unsigned whole, refused, mixed;
+    long first_refused, first_mixed;
+} seen;
+
+/* The element refuses every command on it with 06. */
+static bool is_refused(void)
+{
+    static const uint8_t get[] = {ELEMENT_GET, ELEMENT_METADATA, 0, 2, 0xF1, 0xD0};
+    element_execute(get, sizeof get, now.store, STORE, &now.session, room, sizeof room);
+    return room[0] == ELEMENT_STATUS_REFUSED && now.session.error == ELEMENT_INTERNAL_ERROR;
+}
+
+/* The element shows old and new bytes of F1E0 in one answer, and says that all is well. */
+static bool is_mixed(void)
+{
+    static const uint8_t get[] = {ELEMENT_GET, ELEMENT_DATA, 0, 6, 0xF1, 0xE0, 0, 0, LARGE / 256, LARGE % 256};
+    send(&now, get, sizeof get);
+    return memchr(room + ELEMENT_HEADER, 0x22, LARGE) != NULL && memchr(room + ELEMENT_HEADER, 0x33, LARGE) != NULL;
+}
+
+static void cut_single(const uint8_t *before, long steps, seen *s)
+{
+    memcpy(flash, before, FLASH);
+    save_until(steps, save_single, &new);
+    memcpy(now.store, flash, STORE);
+    now.session = new.session;
+    now.session.error = 0;
+    if (memcmp(now.store, old.store, STORE) == 0 || memcmp(now.store, new.store, STORE) == 0) {
+        s->whole++;
+    } else if (!element_check_store(now.store, STORE)) {
+        expect(is_refused(), "06 on the store of a cut at step %ld", steps);
+        if (s->refused++ == 0)
+            s->first_refused = steps;
+    } else if (is_mixed() && s->mixed++ == 0) {
+        s->first_mixed = steps;
+    }
+}
+
+static void check_single(void)
+{
+    static uint8_t before[FLASH];
+    torn = false;
+    memset(flash, FLASH_ERASED, FLASH);
+    save_whole(save_single, &old);
+    memcpy(before, flash, FLASH);
+    long total = steps_of(save_single, &new);
+    seen s = {0, 0, 0, 0, 0};
+    for (long steps = 0; steps <= total; steps++)
+        cut_single(before, steps, &s);
+    expect(s.refused > 0 && s.mixed > 0, "a single copy without a marker is torn in both ways");
+    printf("a single copy without a marker, cut at each of %ld bytes: element_check_store refuses the store %u times, first after byte %ld;", total, s.refused,
+        s.first_refused);
+    printf(" %u times, first after byte %ld, it takes one whose F1E0 is part new and part old\n", s.mixed, s.first_mixed);
+}
+
+/* A copy that was whole, with a bit changed. */
+static void check_damage(long stride)
+{
+    unsigned bytes = 0;
+    for (size_t i = 0; i < PERSIST_COPY; i += (size_t)stride, bytes++) {
+        memset(flash, FLASH_ERASED, FLASH);
+        save_whole(save, &older);
+        save_whole(save, &old);
+        flash[PERSIST_PAGES * FLASH_PAGE + i] ^= 0x10;
+        restart();
+        expect(is_now(&older), "the older state, where byte %zu of the newer copy has changed", i);
+    }
+    flash[0] ^= 0x10;
+    expect(!persist_load(now.store, &now.session), "nothing is loaded where both copies have changed");
+    printf("a bit of the newer copy changed, in each of %u bytes: the older state, whole; of both copies: nothing is loaded\n", bytes);
+}
+
+int main(int arguments, char **words)
+{
+    long stride = arguments > 1 ? strtol(words[1], NULL, 10) : 1;
+    make_states();
+    memset(flash, FLASH_ERASED, FLASH);
+    expect(!persist_load(now.store, &now.session), "nothing is loaded from an erased flash");
+    save_whole(save, &old);
+    check_copies("the second save", stride);
+    memset(flash, FLASH_ERASED, FLASH);
+    save_whole(save, &older);
+    save_whole(save, &old);
+    check_copies("a later save", stride);
+    check_damage(stride);
+    check_single();
+    return 0;
+}

@@ -1,0 +1,381 @@
+/*
+ * The stack that each entry of include/element.h takes: each is called on a painted stack of its own, over commands of every kind, and the deepest
+ * byte that changed is found.
+ *
+ * usage: stack [any]      fails above the bound of an entry; with `any`, only runs (a sanitizer's memset takes stack too)
+ *
+ * A figure is in bytes below the caller's frame: arguments on the stack, the return address, the library's frames, and those of memset.
+ */
+#define _XOPEN_SOURCE 700
+#include <stdio.h>
+#include <stdlib.h>
+#include <string.h>
+#include <ucontext.h>
+
+#include "element.h"
+
+enum {
+    STACK = 65536,
+    GAP = 512, /* between the switch of stacks and the call, so that the switch back overwrites nothing of it */
+    ROUNDS = 10000,
+    LIST = 64,
+    SESSION_OBJECTS = 3
+};
+
+/* What a call is made with. */
+static uint8_t store[ELEMENT_LARGEST_STORE];
+static size_t store_len;
+static element_session session;
+static uint8_t commands[LIST * (ELEMENT_LARGEST_COMMAND + 1)];
+static size_t sizes[LIST];
+static uint8_t rooms[LIST * ELEMENT_LARGEST_ROOM];
+static size_t spaces[LIST];
+static uint8_t outcomes[LIST];
+static size_t command_len, room_len, count;
+
+/* Commands that were done, and refused with a number: so that every kind is seen to be there. */
+static unsigned done, refused[256];
+
+/* The painted stack. */
+
+static uint8_t stack[STACK];
+static ucontext_t host, guest;
+static uint8_t *frame; /* of the function that calls the entry */
+static void (*call)(void);
+
+static void on_stack(void)
+{
+    volatile uint8_t gap[GAP];
+    gap[0] = 0;
+    call();
+    gap[GAP - 1] = gap[0];
+}
+
+static void paint(uint8_t colour)
+{
+    memset(stack, colour, sizeof stack);
+}
+
+static void call_on_stack(void (*entry)(void))
+{
+    call = entry;
+    if (getcontext(&guest) != 0)
+        exit(2);
+    guest.uc_stack.ss_sp = stack;
+    guest.uc_stack.ss_size = sizeof stack;
+    guest.uc_link = &host;
+    makecontext(&guest, on_stack, 0);
+    if (swapcontext(&host, &guest) != 0)
+        exit(2);
+}
+
+/* How far below the caller's frame a byte is not as it was painted. */
+static size_t depth(uint8_t colour)
+{
+    uint8_t *at = stack;
+    while (*at == colour)
+        at++;
+    return at < frame ? (size_t)(frame - at) : 0;
+}
+
+/* The entries. Each keeps where its own frame is. */
+
+static void call_execute(void)
+{
+    frame = __builtin_frame_address(0);
+    outcomes[0] = element_execute(commands, command_len, store, store_len, &session, rooms, room_len);
+}
+
+static void call_run(void)
+{
+    frame = __builtin_frame_address(0);
+    outcomes[0] = element_run(commands, sizeof commands, sizes, count, store, store_len, &session, rooms, sizeof rooms, spaces, count, outcomes, count);
+}
+
+static void call_check_store(void)
+{
+    frame = __builtin_frame_address(0);
+    outcomes[0] = element_check_store(store, store_len);
+}
+
+static void call_make_factory_store(void)
+{
+    frame = __builtin_frame_address(0);
+    outcomes[0] = element_make_factory_store(store, store_len);
+}
+
+static void call_fresh_session(void)
+{
+    frame = __builtin_frame_address(0);
+    session = element_fresh_session();
+}
+
+/* Stores, sessions and commands by chance, from a fixed seed. */
+
+static uint32_t seed;
+
+static size_t below(size_t limit)
+{
+    seed ^= seed << 13;
+    seed ^= seed >> 17;
+    seed ^= seed << 5;
+    return seed % limit;
+}
+
+static uint8_t one_of(const char *bytes, size_t size)
+{
+    return (uint8_t)bytes[below(size)];
+}
+
+static uint8_t state(void)
+{
+    return one_of("\x01\x03\x07\x0F", 4);
+}
+
+/* An expression of so many conditions, after its length; none is 00. Returns the bytes put. */
+static size_t put_expression(uint8_t *at, size_t conditions)
+{
+    size_t size = conditions == 0 ? 1 : 4 * conditions - 1;
+    at[0] = (uint8_t)size;
+    at[1] = 0x00;
+    for (size_t i = 0; i < conditions; i++) {
+        uint8_t *condition = at + 1 + 4 * i;
+        condition[0] = one_of("\x70\xE0\xE1", 3);
+        condition[1] = one_of("\xFA\xFB\xFC", 3);
+        condition[2] = state();
+        if (i + 1 < conditions)
+            condition[3] = i == 1 || i == 3 ? 0xFE : 0xFD;
+    }
+    return 1 + size;
+}
+
+/* The largest store: 32 records of 512 bytes, with expressions of up to 27. */
+static void make_largest_store(void)
+{
+    memset(store, 0, sizeof store);
+    for (size_t i = 0; i < 32; i++) {
+        uint8_t *record = store + 512 * i;
+        record[1] = 0x02;
+        record[2] = 0x01;
+        record[4] = (uint8_t)(0xD0 + i);
+        record[5] = 0xF1;
+        record[6] = 416 % 256;
+        record[7] = 416 / 256;
+        record[10] = state();
+        for (size_t slot = 0; slot < 3; slot++)
+            put_expression(record + 12 + 28 * slot, below(8));
+    }
+    store_len = sizeof store;
+}
+
+static void begin(void)
+{
+    session = element_fresh_session();
+    session.opened = below(8) != 0;
+    store_len = ELEMENT_FACTORY_STORE_SIZE;
+    element_make_factory_store(store, store_len);
+    if (below(2) == 0)
+        make_largest_store();
+    if (below(8) == 0)
+        session.lcsg = session.lcsa = state();
+    if (below(16) == 0)
+        store[store_len - 1] = 0x01; /* malformed */
+}
+
+static size_t put_object(uint8_t *at)
+{
+    static const uint16_t kept[SESSION_OBJECTS] = {ELEMENT_LCSG, ELEMENT_LCSA, ELEMENT_LAST_ERROR};
+    size_t number = below(8) == 0 ? kept[below(SESSION_OBJECTS)] : 0xF1D0 + below(20);
+    at[0] = (uint8_t)(number >> 8);
+    at[1] = (uint8_t)number;
+    return 2;
+}
+
+static size_t put_number(uint8_t *at, size_t number)
+{
+    at[0] = (uint8_t)(number >> 8);
+    at[1] = (uint8_t)number;
+    return 2;
+}
+
+/* 20, L, and the fields C0, D0, D1, D3, some left out. */
+static size_t put_content(uint8_t *at)
+{
+    static const uint8_t tags[] = {0xD0, 0xD1, 0xD3};
+    size_t size = 2;
+    if (below(2) == 0) {
+        at[size++] = 0xC0;
+        at[size++] = 1;
+        at[size++] = state();
+    }
+    for (size_t i = 0; i < sizeof tags; i++) {
+        if (below(4) == 0)
+            continue;
+        at[size++] = tags[i];
+        size += put_expression(at + size, below(8));
+    }
+    at[0] = 0x20;
+    at[1] = (uint8_t)(size - 2);
+    return size;
+}
+
+static size_t put_get(uint8_t *in)
+{
+    size_t size = put_object(in);
+    size += put_number(in + size, below(4) == 0 ? below(2000) : 0);
+    return size + put_number(in + size, below(2) == 0 ? below(1600) : below(2));
+}
+
+static size_t put_write(uint8_t *in)
+{
+    static const size_t largest[] = {2, 140, 417, 1501, 1550};
+    size_t size = put_object(in);
+    size += put_number(in + size, below(2) == 0 ? 0 : below(1600));
+    size_t end = size + below(largest[below(5)]);
+    while (size < end)
+        in[size++] = state();
+    return size;
+}
+
+static size_t put_in_data(uint8_t *in, uint8_t cmd, uint8_t param)
+{
+    if (cmd == ELEMENT_OPEN) {
+        memcpy(in, ELEMENT_IDENTIFIER, ELEMENT_IDENTIFIER_SIZE);
+        in[15] ^= below(8) == 0;
+        return ELEMENT_IDENTIFIER_SIZE;
+    }
+    if (cmd == ELEMENT_GET)
+        return param == ELEMENT_METADATA ? put_object(in) : put_get(in);
+    if (cmd == ELEMENT_SET && param == ELEMENT_METADATA)
+        return put_object(in) + put_content(in + 2);
+    return cmd == ELEMENT_SET ? put_write(in) : 0;
+}
+
+/* A command, at most a byte too long; returns its size. */
+static size_t put_command(uint8_t *at)
+{
+    uint8_t cmd = below(16) == 0 ? (uint8_t)below(128) : one_of("\x01\x01\x02\x02\x02\x70\x71", 7);
+    uint8_t param = cmd == ELEMENT_SET ? one_of("\x00\x40\x01", 3) : cmd == ELEMENT_GET ? one_of("\x00\x01", 2) : 0;
+    if (below(32) == 0)
+        param = (uint8_t)below(256);
+    size_t size = put_in_data(at + ELEMENT_HEADER, cmd, param);
+    at[0] = (uint8_t)(cmd | (below(8) == 0 ? ELEMENT_FLUSH : 0));
+    at[1] = param;
+    put_number(at + 2, size);
+    if (below(32) == 0)
+        return below(ELEMENT_HEADER + size);
+    return ELEMENT_HEADER + size;
+}
+
+static size_t some_space(void)
+{
+    return below(8) == 0 ? below(16) : ELEMENT_LARGEST_ROOM;
+}
+
+/* One call with other commands; they fit what was set apart for them. */
+
+static void note(uint8_t outcome, uint8_t status, uint8_t error)
+{
+    if (outcome == ELEMENT_ANSWERED && status == ELEMENT_STATUS_DONE)
+        done++;
+    else if (outcome == ELEMENT_ANSWERED)
+        refused[error]++;
+}
+
+static void try_execute(void)
+{
+    begin();
+    command_len = put_command(commands);
+    room_len = some_space();
+    call_on_stack(call_execute);
+    note(outcomes[0], rooms[0], session.error);
+}
+
+static void try_run(void)
+{
+    size_t at = 0;
+    begin();
+    count = 1 + below(LIST);
+    for (size_t i = 0; i < count; i++) {
+        sizes[i] = put_command(commands + at);
+        spaces[i] = some_space();
+        at += sizes[i];
+    }
+    call_on_stack(call_run);
+}
+
+static void try_check_store(void)
+{
+    begin();
+    call_on_stack(call_check_store);
+}
+
+static void try_make_factory_store(void)
+{
+    store_len = ELEMENT_FACTORY_STORE_SIZE + (below(8) == 0);
+    call_on_stack(call_make_factory_store);
+}
+
+static void try_fresh_session(void)
+{
+    call_on_stack(call_fresh_session);
+}
+
+/* The figures. */
+
+static const struct {
+    const char *name;
+    void (*attempt)(void);
+    size_t bound;
+} ENTRIES[] = {
+    {"element_execute", try_execute, 640},
+    {"element_run", try_run, 768},
+    {"element_check_store", try_check_store, 384},
+    {"element_make_factory_store", try_make_factory_store, 448},
+    {"element_fresh_session", try_fresh_session, 64}
+};
+
+/* The deepest of all calls, with either colour: a byte of the one colour may have been written as such. */
+static size_t deepest(void (*attempt)(void))
+{
+    size_t most = 0;
+    for (unsigned turn = 0; turn < 2; turn++) {
+        uint8_t colour = turn == 0 ? 0xA5 : 0x5A;
+        seed = 1;
+        paint(colour);
+        for (size_t i = 0; i < ROUNDS; i++)
+            attempt();
+        size_t now = depth(colour);
+        if (now > most)
+            most = now;
+    }
+    return most;
+}
+
+/* Every refusal of the header has been seen, and commands that were done. */
+static bool all_kinds(void)
+{
+    static const uint8_t numbers[] = {0x01, 0x03, 0x04, 0x05, 0x06, 0x07, 0x08, 0x0A, 0x0C, 0x0D};
+    for (size_t i = 0; i < sizeof numbers; i++)
+        if (refused[numbers[i]] == 0) {
+            printf("no command was refused with %02X\n", (unsigned)numbers[i]);
+            return false;
+        }
+    return done > ROUNDS / 4;
+}
+
+int main(int arguments, char **words)
+{
+    bool any = arguments > 1 && strcmp(words[1], "any") == 0;
+    bool within = true;
+    for (size_t i = 0; i < sizeof ENTRIES / sizeof ENTRIES[0]; i++) {
+        size_t most = deepest(ENTRIES[i].attempt);
+        if (!any)
+            printf("%s: %zu bytes of stack, bound %zu\n", ENTRIES[i].name, most, ENTRIES[i].bound);
+        within = within && (any || most <= ENTRIES[i].bound);
+    }
+    if (!all_kinds())
+        return 1;
+    printf("%d calls of each entry on a stack of their own; of the commands %u were done, the others refused with every number\n", 2 * ROUNDS, done);
+    return within ? 0 : 1;
+}
