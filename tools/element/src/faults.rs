@@ -107,8 +107,8 @@ fn record_faults(record: &Record, before: Option<u16>) -> Vec<String> {
 fn number_faults(record: &Record) -> Vec<String> {
     let mut faults = Vec::new();
     let (maximum, used, length) = (record.maximum(), record.used(), record.bytes.len());
-    if record.number(2) != KIND {
-        faults.push(format!("kind {:04X}, expected 0001", record.number(2)));
+    if record.kind() != KIND {
+        faults.push(format!("kind {:04X}, expected 0001", record.kind()));
     }
     if !(1..=LARGEST_OBJECT).contains(&maximum) {
         faults.push(format!("maximum {maximum}, expected 1 to {LARGEST_OBJECT}"));

@@ -78,8 +78,8 @@ Exit status: 0 well formed; 1 malformed, or library and reading disagree; 2 bad 
 
 /// `element show --help`.
 pub const SHOW: &str = "\
-Shows the session and each object: number, how full it is, used and maximum, LcsO, the three expressions, and
-the data in use as rows of place, hex and text.
+Shows the session and each object: number, kind, how full it is, used and maximum, LcsO, the three
+expressions, and the data in use as rows of place, hex and text.
 
 usage: element show FILE [--description]
 

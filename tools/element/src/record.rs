@@ -41,6 +41,11 @@ impl<'s> Record<'s> {
         self.bytes.get(from..to).unwrap_or(&[])
     }
 
+    /// The kind of the record.
+    pub fn kind(&self) -> u16 {
+        self.number(2)
+    }
+
     /// The object's number.
     pub fn object(&self) -> u16 {
         self.number(4)

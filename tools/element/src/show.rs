@@ -41,8 +41,9 @@ pub fn show(file: &Path, as_description: bool) -> Result<Report, Trouble> {
 
 fn object(record: &Record) -> String {
     let mut text = format!(
-        "{:04X}  {}  used {} of {}  LcsO {}\n",
+        "{:04X}  kind {:04X}  {}  used {} of {}  LcsO {}\n",
         record.object(),
+        record.kind(),
         bar(record.used(), record.maximum()),
         record.used(),
         record.maximum(),
@@ -88,7 +89,7 @@ mod tests {
         let shown = object(&record::records(&store)[0]);
         assert_eq!(
             shown,
-            "F1D0  [####................]  used 2 of 10  LcsO 07 operational\n      change   LcsO < operational\n      read     always\n      execute  never\n         0  41 00                                            A.\n"
+            "F1D0  kind 0001  [####................]  used 2 of 10  LcsO 07 operational\n      change   LcsO < operational\n      read     always\n      execute  never\n         0  41 00                                            A.\n"
         );
     }
 }
