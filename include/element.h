@@ -251,10 +251,9 @@ static inline uint8_t element_refusal_of(const uint8_t *command, size_t command_
 }
 
 /*
- * The same functions for pointers that may be NULL. A NULL session is ELEMENT_WRONG_SIZE, and so is any other NULL with a length above 0; it is
- * looked for before anything else, and nothing is changed. A NULL with length 0 is an empty buffer: a NULL room with room_len 0 has no room for
- * a status and is ELEMENT_NO_ROOM, as every room under 4 bytes is in element_execute. A NULL store is not well formed, and too small for the
- * factory's.
+ * The same functions for pointers that may be NULL. A NULL session and a NULL room of element_execute_checked are ELEMENT_WRONG_SIZE, and so is
+ * any other NULL with a length above 0; it is looked for before anything else, and nothing is changed. Any other NULL with length 0 is an empty
+ * buffer. A NULL store is not well formed, and too small for the factory's.
  */
 static inline bool element_missing(const void *buffer, size_t length)
 {
@@ -263,7 +262,7 @@ static inline bool element_missing(const void *buffer, size_t length)
 
 static inline uint8_t element_execute_checked(const uint8_t *command, size_t command_len, uint8_t *store, size_t store_len, element_session *session, uint8_t *room, size_t room_len)
 {
-    if (session == NULL || element_missing(command, command_len) || element_missing(store, store_len) || element_missing(room, room_len))
+    if (session == NULL || room == NULL || element_missing(command, command_len) || element_missing(store, store_len))
         return ELEMENT_WRONG_SIZE;
     return element_execute(command, command_len, store, store_len, session, room, room_len);
 }

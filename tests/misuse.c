@@ -204,18 +204,10 @@ static void check_null_with_length(void)
     expect(checked(flushed, length, now.store, NULL, now.room) == 2 && unchanged(), "outcome 2 and nothing changed for a NULL session");
     expect(checked(flushed, length, now.store, &now.session, NULL) == 2 && unchanged(), "outcome 2 and nothing changed for a NULL room");
     expect(checked(NULL, length, NULL, NULL, NULL) == 2 && unchanged(), "outcome 2 and nothing changed for NULL everywhere");
-    for (size_t room = 1; room <= ELEMENT_LEAST_ROOM; room++)
+    for (size_t room = 0; room <= ELEMENT_LEAST_ROOM; room++)
         expect(element_execute_checked(flushed, length, now.store, STORE, &now.session, NULL, room) == 2 && unchanged(),
             "outcome 2 and nothing changed for a NULL room of %zu", room);
 
-    expect(element_execute_checked(flushed, length, now.store, STORE, &now.session, NULL, 0) == 1 && unchanged(),
-        "outcome 1 and nothing changed for a NULL room of no bytes");
-    expect(element_execute_checked(NULL, length, now.store, STORE, &now.session, NULL, 0) == 2 && unchanged(),
-        "outcome 2 for a NULL command before 1 for a NULL room of no bytes");
-    expect(element_execute_checked(flushed, length, NULL, STORE, &now.session, NULL, 0) == 2 && unchanged(),
-        "outcome 2 for a NULL store before 1 for a NULL room of no bytes");
-    expect(element_execute_checked(flushed, length, now.store, STORE, NULL, NULL, 0) == 2 && unchanged(),
-        "outcome 2 for a NULL session before 1 for a NULL room of no bytes");
     expect(element_execute_checked(flushed, length, now.store, STORE, NULL, now.room, 3) == 2 && unchanged(),
         "outcome 2 for a NULL session before 1 for a room of 3");
     expect(element_execute_checked(flushed, length, now.store, STORE, &now.session, now.room, 3) == 1 && unchanged(),

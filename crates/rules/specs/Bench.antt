@@ -5,7 +5,7 @@ use mathlib.Core.List.{List, [], _∷_, _++_}
 use Rattle.rules.specs.Basic.{zeros}
 use Rattle.rules.specs.Hex.{hex, ascii}
 use Rattle.rules.specs.Factory.{factory-store, fresh-session}
-use Rattle.rules.specs.Cases.{session, opened, closed, Exchange, _gives_, _refused_leaving_, done-empty, Case, talk, judge, begins, prints}
+use Rattle.rules.specs.Cases.{session, opened, closed, _gives_, _refused_leaving_, done-empty, Case, talk, judge, begins, prints}
 
 unfoldable pub open-command : List ℕ
 open-command = hex "70 00 00 10 D2 76 00 00 04 47 65 6E 41 75 74 68 41 70 70 6C"

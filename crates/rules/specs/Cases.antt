@@ -1,11 +1,10 @@
--- Cases that antt computes from the rules, and when each is right. What a case expects is written by hand, with no rule's own helper.
+-- Cases that antt computes from the rules, and when each is right. What a case expects is written by hand, with no rule's own function.
 use Prim.Native.Nat.{ℕ, _-_}
-use mathlib.Core.Bool.{Bool, true, false, _&&_, not, Bool·beq}
+use mathlib.Core.Bool.{Bool, true, false, _&&_, Bool·beq}
 use mathlib.Core.List.{List, [], _∷_, _++_}
 use mathlib.Core.Option.{Option, none, some}
 use lib.Dec.{eqb}
 use lib.ListN.{length, take, replicate}
-use Rattle.mixing.specs.Cells.{State}
 use Rattle.rules.specs.declared.Session.{Session}
 use Rattle.rules.specs.Basic.{all, same, is-some, or-else}
 use Rattle.rules.specs.Hex.{hex}

@@ -8,7 +8,7 @@ use Prim.Native.String.{String}
 use lib.ListN.{length, replicate}
 use Rattle.rules.specs.Basic.{zeros}
 use Rattle.rules.specs.Hex.{hex, ascii}
-use Rattle.rules.specs.Cases.{session, opened, closed, Exchange, _gives_, _refused_leaving_, unanswered-in, in-room, done-empty, turn, told}
+use Rattle.rules.specs.Cases.{session, opened, closed, _gives_, _refused_leaving_, unanswered-in, in-room, done-empty, turn, told}
 use Rattle.rules.specs.Cases.{Case, talk, stores, judge, written, sound, whole, makes, starts, reads-writes, names, runs, prints}
 use Rattle.rules.specs.Bench.{open-command}
 

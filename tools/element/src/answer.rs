@@ -21,6 +21,11 @@ pub struct Exchange {
 }
 
 impl Exchange {
+    /// Whether a response stands and is no refusal.
+    pub fn is_done(&self) -> bool {
+        self.outcome == 0 && self.refused.is_none()
+    }
+
     /// The line that the program `bench` prints.
     pub fn plain(&self) -> String {
         format!("{} {}\n", self.outcome, hex::joined(&self.response))

@@ -72,7 +72,7 @@ const FORMS: [Form; 5] = [
     Form {
         name: "run",
         operands: &["FILE", "LIST"],
-        options: &["--dry", "--strict", "--plain", "--room"],
+        options: &["--dry", "--accept-refusals", "--plain", "--room"],
         help: help::RUN,
     },
 ];
@@ -194,7 +194,7 @@ fn request(form: &Form, given: Given) -> Result<Request, Trouble> {
 fn run_options(given: &Given) -> Options {
     Options {
         dry: given.has("--dry"),
-        strict: given.has("--strict"),
+        accept_refusals: given.has("--accept-refusals"),
         plain: given.has("--plain"),
         room: given.room.unwrap_or(Options::default().room),
     }
@@ -245,12 +245,15 @@ mod tests {
             list: "-".into(),
             options: Options {
                 dry: true,
-                strict: true,
+                accept_refusals: true,
                 plain: false,
                 room: 28,
             },
         };
-        assert_eq!(parsed("run --dry a --room 28 - --strict"), Ok(expected));
+        assert_eq!(
+            parsed("run --dry a --room 28 - --accept-refusals"),
+            Ok(expected)
+        );
         let expected = Request::New {
             file: "--force".into(),
             force: false,

@@ -24,8 +24,8 @@ FILE holds the store. The session stands beside it in FILE.session: 4 bytes, ope
 error; without that file the session is the fresh one. DESCRIPTION and LIST are texts, `-` is standard input.
 The proved library judges every command and every store.
 
-Exit status: 0 done; 1 the store is malformed, library and explainer disagree, or with `run --strict` a
-command was refused; 2 bad use, or a file that cannot be read, understood or written.
+Exit status: 0 done; 1 the store is malformed, library and explainer disagree, or `run` met a command that
+was not done; 2 bad use, or a file that cannot be read, understood or written.
 Each error says what is wrong and what was expected.
 ";
 
@@ -93,14 +93,14 @@ pub const RUN: &str = "\
 Carries out a list of commands, each on what the one before left, and shows each command in words, its
 response, and a refusal by its own number (the last error may hold a higher one).
 
-usage: element run FILE LIST [--dry] [--strict] [--plain] [--room BYTES]
+usage: element run FILE LIST [--dry] [--accept-refusals] [--plain] [--room BYTES]
 
-  --dry           keeps nothing
-  --strict        a refused command gives exit status 1; all commands are carried out all the same
-  --plain         prints for each command only its outcome, a blank and its response in hex, as the program
-                  bench does
-  --room BYTES    the room for each response, 0 to 65535; without it 1504, which every response fits, as in
-                  the program bench
+  --dry                keeps nothing
+  --accept-refusals    exit status 0 also where a command is refused, or has no room for an answer
+  --plain              prints for each command only its outcome, a blank and its response in hex, as the
+                       program bench does
+  --room BYTES         the room for each response, 0 to 65535; without it 1504, which every response fits,
+                       as in the program bench
 
 LIST has one command to a line in hex, two digits to a byte, upper or lower case, with or without blanks
 between bytes; a note begins with # and runs to the end of its line; the word empty is the command of no
@@ -110,6 +110,7 @@ Store and session are kept in FILE and FILE.session when the whole list is carri
 are printed. New files are finished beside them (FILE.element-next, FILE.session.element-next) and take their
 places by rename: after an interruption both are the old ones or both the new ones. Runs on one folder wait
 for each other. A run whose answers cannot be printed is kept all the same.
-Exit status: 0 done, also where commands are refused; 1 the store is malformed, so that every command is
-refused, or with --strict a command was refused; 2 bad use, or a file that cannot be read, understood or written.
+Exit status: 0 all commands were done; 1 a command was refused or had no room for an answer (all others are
+carried out all the same), or the store is malformed, so that every command is refused; 2 bad use, or a file
+that cannot be read, understood or written.
 ";

@@ -19,8 +19,8 @@ const REFUSED: u8 = 0xFF;
 pub struct Options {
     /// Nothing is kept.
     pub dry: bool,
-    /// A refused command gives status 1.
-    pub strict: bool,
+    /// A command that is not done gives status 0 all the same.
+    pub accept_refusals: bool,
     /// Lines as `bench` prints them.
     pub plain: bool,
     /// The bytes of each command's room.
@@ -31,7 +31,7 @@ impl Default for Options {
     fn default() -> Options {
         Options {
             dry: false,
-            strict: false,
+            accept_refusals: false,
             plain: false,
             room: LARGEST_ROOM,
         }
@@ -97,8 +97,9 @@ fn report(
     options: &Options,
 ) -> Report {
     let refused = exchanges.iter().filter(|one| one.refused.is_some()).count();
+    let undone = exchanges.iter().any(|one| !one.is_done());
     let malformed = judged.status != Status::Done;
-    let status = match malformed || options.strict && refused > 0 {
+    let status = match malformed || undone && !options.accept_refusals {
         true => Status::Differs,
         false => Status::Done,
     };

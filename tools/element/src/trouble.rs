@@ -5,7 +5,7 @@
 pub enum Status {
     /// What was asked for is done.
     Done,
-    /// A store is malformed, two things differ, or with `--strict` a command was refused.
+    /// A store is malformed, two things differ, or a command was refused.
     Differs,
     /// Bad use, or a file that cannot be read, understood or written.
     Bad,

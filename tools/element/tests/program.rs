@@ -94,7 +94,7 @@ fn runs_at_the_same_time_wait_for_each_other() {
                     &list,
                     format!("02000005F1D{index:X}0000A{index:X}").as_bytes(),
                 );
-                assert_eq!(folder.status(&["run", "store", &list, "--strict"]), Some(0));
+                assert_eq!(folder.status(&["run", "store", &list]), Some(0));
             });
         }
     });
