@@ -1,3 +1,5 @@
+//! The element over a lent store and session: calls by type, commands given as bytes, lists.
+
 use crate::command::{CLOSE, DATA, ERASE_AND_WRITE, GET, IDENTIFIER, METADATA, OPEN, REFUSED, SET};
 use crate::library::{self, List, ANSWERED};
 use crate::{tag, Error, Refusal, Session, HEADER, LARGEST_COMMAND, LEAD};

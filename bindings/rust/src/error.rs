@@ -1,3 +1,5 @@
+//! Why a call did not do its work, and the ten refusals with their numbers.
+
 use core::fmt;
 
 /// Why a command is refused.

@@ -1,3 +1,5 @@
+//! The session, four bytes that the host keeps.
+
 use crate::library;
 
 /// What the element keeps between commands; every value of every byte has a meaning.
