@@ -1,10 +1,11 @@
 /*
- * Replays whole cases through the C interface: the same input and output as the program `replay` (crates/replay/src/main.rt says which).
+ * Replays whole cases through the C interface: stores, sessions, rooms and commands on standard input, what came of each on standard output, in
+ * the form that reference/README.md gives ("Replay format"). tests/compare holds it to the reference's `replay`.
  *
- *   gcc -std=c99 -O2 -Iinclude tests/library_replay.c target/staticlib/libfirmware.a -o library_replay
+ *   gcc -std=c99 -O2 -Iinclude tests/replay.c target/staticlib/libfirmware.a -o target/replay
  *
- * usage: library_replay          each command by element_execute
- *        library_replay run      each command by element_run, as a list of one
+ * usage: replay          each command by element_execute
+ *        replay run      each command by element_run, as a list of one
  *
  * Each buffer that is lent has exactly its size on the heap, so that valgrind sees a step outside.
  */
@@ -28,9 +29,10 @@ typedef struct buffer {
     size_t length;
 } buffer;
 
-/* The present store and session. */
+/* The present store and session, and the byte that a case gave for opened. */
 static buffer store;
 static element_session session;
+static uint8_t opened_given;
 static bool by_run;
 
 /* The line to print, and how much of it stands. */
@@ -119,9 +121,15 @@ static void put_sum(buffer b)
     put_hex(sum, sizeof sum);
 }
 
+/* The byte given for open is kept for as long as it is open, and counts as 01; the library itself writes 00 and 01 only. */
+static uint8_t opened_shown(void)
+{
+    return session.opened == opened_given && opened_given != 0 ? 1 : session.opened;
+}
+
 static void put_session(void)
 {
-    const uint8_t bytes[] = {session.opened != 0, session.lcsg, session.lcsa, session.error};
+    const uint8_t bytes[] = {opened_shown(), session.lcsg, session.lcsa, session.error};
     put_hex(bytes, sizeof bytes);
 }
 
@@ -149,7 +157,7 @@ static bool take_store(void)
     replace_store(next);
     if (!read_bytes(bytes, sizeof bytes))
         return false;
-    session.opened = bytes[0];
+    session.opened = opened_given = bytes[0];
     session.lcsg = bytes[1];
     session.lcsa = bytes[2];
     session.error = bytes[3];
