@@ -41,7 +41,7 @@ fn digit(n: u8) -> u8
 }
 
 // Puts a byte at a place of the output, if it fits, and answers the place past it.
-pub fn put_byte(output: &mut [u8], at: usize, byte: u8) -> usize
+fn put_byte(output: &mut [u8], at: usize, byte: u8) -> usize
     requires { ⌜ at ≤ length (now output) ⌝ }
     ensures { λ r. ⌜ Put at (byte ∷ []) (now (output .entry)) (now (output .exit)) r ⌝ }
 {
@@ -53,7 +53,7 @@ pub fn put_byte(output: &mut [u8], at: usize, byte: u8) -> usize
 }
 
 // Puts as much of a text as fits.
-pub fn put_text(output: &mut [u8], at: usize, text: &[u8]) -> usize
+fn put_text(output: &mut [u8], at: usize, text: &[u8]) -> usize
     requires { ⌜ at ≤ length (now output) ⌝ }
     ensures { λ r. ⌜ Put at (now (text .entry)) (now (output .entry)) (now (output .exit)) r ⌝ }
 {
@@ -71,7 +71,7 @@ fn put_pair(output: &mut [u8], at: usize, byte: u8) -> usize
     put_byte(output, next, digit(byte % 16))
 }
 
-pub fn put_hex(output: &mut [u8], at: usize, bytes: &[u8]) -> usize
+fn put_hex(output: &mut [u8], at: usize, bytes: &[u8]) -> usize
     requires { ⌜ at ≤ length (now output) ⌝ }
     ensures { λ r. ⌜ Put at (upper-hex (now (bytes .entry))) (now (output .entry)) (now (output .exit)) r ⌝ }
 {
