@@ -1,27 +1,26 @@
 -- What stands at a place when another object's record takes the place of the one there: laws for callers.
-use Prim.Native.Nat.{ℕ, zero, suc, _+_, _≤_}
-use mathlib.Core.Bool.{Bool, true}
-use mathlib.Core.List.{List, [], _∷_, _++_}
+use Prim.Native.Nat.{ℕ, _+_, _≤_}
+use mathlib.Core.Bool.{true}
+use mathlib.Core.List.{List, _++_}
 use mathlib.Core.Path.{_≡_, refl, sym, ap, _∙_}
 use native.Mathlib.Omega.{arith}
-use borrow.Author.Tests.{le-leb}
-use lib.Dec.{leb}
-use lib.ListN.{length, take, drop, set, take-append-drop}
+use lib.ListN.{length, take, drop, take-append-drop}
 use lib.Seq.{length-take-le, take-at, drop-at}
-use Rattle.rules.specs.Basic.{all}
 use Rattle.rules.specs.declared.Slot.{Slot}
 use Rattle.rules.specs.declared.Slot.the-variants.{Change, Read, Execute}
 use Rattle.rules.specs.Expression.{Expression, is-state, expression-allowed}
-use Rattle.rules.specs.Object.{Object, object-allowed}
+use Rattle.rules.specs.Object.{Object, object-allowed, with-content}
 use Rattle.rules.specs.Layout.{head-size, record-size, record-bytes, read-record}
-use Rattle.rules.specs.Operation.{with-content, put-at}
-use Rattle.rules.proofs.Tests.{and-both, and-left, and-right, same-refl}
-use Rattle.rules.proofs.Inverse.{allowed-fits, record-length, record-read}
+use Rattle.rules.specs.Operation.{put-at}
+use Rattle.rules.proofs.Facts.{allowed, allowed-by}
+use Rattle.rules.proofs.Fitting.{content-fits}
+use Rattle.rules.proofs.Tests.{same-refl}
+use Rattle.rules.proofs.Inverse.{record-length, record-read}
 use Rattle.rules.proofs.Puts.{put-used}
 use Rattle.primitives.specs.Bytes.{over}
 use Rattle.primitives.proofs.Over.{over-length}
-use Rattle.store.specs.Places.{object-at, stands-at, Stored, with-record}
-use Rattle.store.proofs.Standing.{standing, stored}
+use Rattle.record.specs.Places.{object-at, stands-at, Stored, with-record}
+use Rattle.record.proofs.Standing.{standing, stored-facts}
 use Rattle.change.specs.Change.{with-lcso, with-expressions, with-expression}
 use Rattle.change.proofs.Inside.{over-again}
 
@@ -36,7 +35,7 @@ module _ (p : ℕ) (b : List ℕ) (s : Stored p b) where
 
   module _ (o : Object) (ok : object-allowed o ≡ true) (same-maximum : o .maximum ≡ object-at p b .maximum) where
     new-length : length (record-bytes o) ≡ record-size o
-    new-length = record-length o (allowed-fits o ok)
+    new-length = record-length o (allowed o ok)
 
     new-in : p + length (record-bytes o) ≤ length b
     new-in = omega (arith, s .inside, new-length)
@@ -51,10 +50,10 @@ module _ (p : ℕ) (b : List ℕ) (s : Stored p b) where
 
     pub changed-object : object-at p (with-record p o b) ≡ o
     unfolding object-at
-    changed-object = ap read-record new-here ∙ record-read o (drop (p + length (record-bytes o)) b) (allowed-fits o ok)
+    changed-object = ap read-record new-here ∙ record-read o (drop (p + length (record-bytes o)) b) (allowed o ok)
 
     pub changed-stored : Stored p (with-record p o b)
-    changed-stored = stored p (with-record p o b) (unfold stands-at in rw (changed-object, ok, taken, same-refl (record-bytes o)))
+    changed-stored = stored-facts p (with-record p o b) (unfold stands-at in rw (changed-object, ok, taken, same-refl (record-bytes o)))
       where
         taken : take (record-size o) (drop p (with-record p o b)) ≡ record-bytes o
         taken = ap (take (record-size o)) new-here ∙ take-at (record-bytes o) (drop (p + length (record-bytes o)) b) (record-size o) new-length
@@ -64,26 +63,22 @@ module _ (p : ℕ) (b : List ℕ) (s : Stored p b) where
     unfolding with-record
     changed-twice x k e =
         over-again p (record-bytes x) (record-bytes o) b before-in
-        (new-length ∙ ap (λ n. head-size + n) (same-maximum ∙ sym e) ∙ sym (record-length x (allowed-fits x k)))
+        (new-length ∙ ap (λ n. head-size + n) (same-maximum ∙ sym e) ∙ sym (record-length x (allowed x k)))
 
   -- its own record in its place
   pub unchanged : with-record p (object-at p b) b ≡ b
   unfolding with-record over
   unchanged =
       let o = object-at p b in
-      let n = record-length o (allowed-fits o stands-allowed) in
+      let n = record-length o (allowed o stands-allowed) in
       ap (λ k. take p b ++ (record-bytes o ++ drop (p + k) b)) n ∙ ap (λ x. take p b ++ x) (sym (standing p b (s .stands) .here)) ∙ take-append-drop p b
 
 -- the changed objects are allowed ------------------------------------------------------------------------------------------
 
--- one of several tests in another's place
-all-set : (ts : List Bool) (k : ℕ) (t : Bool) → all ts ≡ true → t ≡ true → all (set ts k t) ≡ true
-unfolding all
-all-set [] k t h e = refl
-all-set (u ∷ ts) zero t h e = and-both t (all ts) e (and-right u (all ts) h)
-all-set (u ∷ ts) (suc k) t h e = and-both u (all (set ts k t)) (and-left u (all ts) h) (all-set ts k t (and-right u (all ts) h) e)
-
 module _ (o : Object) where
+  pub content-allowed : (c : List ℕ) → object-allowed o ≡ true → length c ≤ o .maximum → object-allowed (with-content c o) ≡ true
+  content-allowed c h l = content-fits c o h l .allowed
+
   pub content-number : (c : List ℕ) → with-content c o .number ≡ o .number
   unfolding with-content
   content-number c = refl
@@ -91,10 +86,6 @@ module _ (o : Object) where
   pub content-maximum : (c : List ℕ) → with-content c o .maximum ≡ o .maximum
   unfolding with-content
   content-maximum c = refl
-
-  pub content-allowed : (c : List ℕ) → object-allowed o ≡ true → length c ≤ o .maximum → object-allowed (with-content c o) ≡ true
-  unfolding object-allowed with-content
-  content-allowed c h l = all-set _ 4 (leb (length c) (o .maximum)) h (le-leb (length c) (o .maximum) l)
 
   -- bytes written within the maximum, over content that is within it
   pub written-allowed : (k : ℕ) (src old : List ℕ) → object-allowed o ≡ true → length old ≤ o .maximum → k + length src ≤ o .maximum →
@@ -110,8 +101,8 @@ module _ (o : Object) where
   lcso-maximum n = refl
 
   pub lcso-allowed : (n : ℕ) → object-allowed o ≡ true → is-state n ≡ true → object-allowed (with-lcso n o) ≡ true
-  unfolding object-allowed with-lcso
-  lcso-allowed n h e = all-set _ 5 (is-state n) h e
+  unfolding with-lcso
+  lcso-allowed n h e = let a = allowed o h in allowed-by _ (search (a, e))
 
   pub expression-number : (s : Slot) (e : Expression) → with-expression s e o .number ≡ o .number
   unfolding with-expression with-expressions
@@ -126,7 +117,7 @@ module _ (o : Object) where
   expression-maximum Execute e = refl
 
   pub with-expression-allowed : (s : Slot) (e : Expression) → object-allowed o ≡ true → expression-allowed e ≡ true → object-allowed (with-expression s e o) ≡ true
-  unfolding object-allowed with-expression with-expressions
-  with-expression-allowed Change e h k = all-set _ 6 (expression-allowed e) h k
-  with-expression-allowed Read e h k = all-set _ 7 (expression-allowed e) h k
-  with-expression-allowed Execute e h k = all-set _ 8 (expression-allowed e) h k
+  unfolding with-expression with-expressions
+  with-expression-allowed Change e h k = let a = allowed o h in allowed-by _ (search (k, a))
+  with-expression-allowed Read e h k = let a = allowed o h in allowed-by _ (search (k, a))
+  with-expression-allowed Execute e h k = let a = allowed o h in allowed-by _ (search (k, a))

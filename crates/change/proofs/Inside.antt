@@ -47,8 +47,7 @@ lent-over a k m y d xs h l e =
     let x = take m (drop a xs) in
     let c = drop m (drop a xs) in
     let n : length x ≡ m = simp (length-take, length-drop) (omega arith) in
-    let split : xs ≡ take a xs ++ (x ++ c) =
-    sym (take-append-drop a xs) ∙ ap (λ r. take a xs ++ r) (sym (take-append-drop m (drop a xs))) in
+    let split : xs ≡ take a xs ++ (x ++ c) = sym (take-append-drop a xs) ∙ ap (λ r. take a xs ++ r) (sym (take-append-drop m (drop a xs))) in
     ap (λ z. take a xs ++ (z ++ c)) e ∙ sym (over-in a k (take a xs) x c y (length-take-le a xs (omega arith)) (omega arith)) ∙
     ap (over (a + k) y) (sym split)
 

@@ -2,5 +2,5 @@ pub mod Inside
 pub mod Zeros
 pub mod Changed
 pub mod Records
-pub mod Left
+pub mod Rewritten
 pub mod Results

@@ -2,42 +2,34 @@
 use Prim.Native.Nat.{ℕ, _+_, _-_, _≤_, _<_, max}
 use mathlib.Core.Bool.{true}
 use mathlib.Core.List.{List, [], _∷_, _++_}
-use mathlib.Core.Path.{_≡_, refl, sym, ap, _∙_}
+use mathlib.Core.Path.{_≡_, sym, ap, _∙_}
 use native.Mathlib.Omega.{arith}
 use lib.ListN.{length, take, drop, length-take, length-drop, length-replicate}
-use Rattle.rules.specs.Basic.{zeros, low-first, low-at, is-some}
+use Rattle.rules.specs.Basic.{zeros, little-endian, is-some}
 use Rattle.rules.specs.declared.Slot.{Slot}
 use Rattle.rules.specs.Expression.{expression, read-expression}
-use Rattle.rules.specs.Object.{Object, object-allowed}
-use Rattle.rules.specs.Layout.{slot-size, head-size, record-size, slot-at, slot-of, slot, record-bytes}
-use Rattle.rules.specs.Operation.{with-content, put-at}
+use Rattle.rules.specs.Object.{Object, used, object-allowed, with-content}
+use Rattle.rules.specs.Layout.{slot-size, head-size, record-size, slot-at, slot-of, slot, record-bytes, slot-of-with}
+use Rattle.rules.specs.Operation.{put-at}
+use Rattle.rules.proofs.Facts.{allowed}
 use Rattle.rules.proofs.Expressions.{expression-length}
-use Rattle.rules.proofs.Inverse.{allowed-fits, record-length, slot-length}
+use Rattle.rules.proofs.Inverse.{record-length, slot-length}
 use Rattle.primitives.specs.Bytes.{over}
-use Rattle.primitives.proofs.Over.{over-length, over-over}
-use Rattle.store.specs.Places.{object-at, Stored, with-record}
+use Rattle.primitives.proofs.Over.{over-length}
+use Rattle.record.specs.Places.{object-at, Stored, with-record}
+use Rattle.record.proofs.Standing.{slot-in-head}
 use Rattle.change.specs.Change.{with-lcso, with-expression}
 use Rattle.change.proofs.Inside.{over-inside, lent-over, lent-whole}
 use Rattle.change.proofs.Changed.{stands-allowed, unchanged}
-use Rattle.change.proofs.Left.{Left, left-start, left-object, left-stored, left-erased, left-written}
-use Rattle.change.proofs.Records.{written-record, erased-record, lcso-record, slot-record, slot-in-head, read-allowed}
-
--- what `put_slot` puts
-pub slot-by : (r q0 q1 xs v : List ℕ) (at : ℕ) → at + slot-size ≤ length xs → length v < slot-size → q0 ≡ over at (length v ∷ []) xs →
-    q1 ≡ over (at + 1) v q0 → r ≡ over (at + 1 + length v) (zeros (slot-size - 1 - length v)) q1 → r ≡ over at (slot-of v) xs
-unfolding slot-of
-slot-by r q0 q1 xs v at h l e0 e1 e2 =
-    let z = zeros (slot-size - 1 - length v) in
-    let n : length z ≡ slot-size - 1 - length v = length-replicate (slot-size - 1 - length v) 0 in
-    let s1 : q1 ≡ over at (length v ∷ v) xs = e1 ∙ ap (over (at + 1) v) e0 ∙ over-over at (at + 1) (length v ∷ []) v xs refl (omega arith) in
-    e2 ∙ ap (over (at + 1 + length v) z) s1 ∙ over-over at (at + 1 + length v) (length v ∷ v) z xs (omega arith) (omega arith)
+use Rattle.change.proofs.Rewritten.{Rewritten, left-start, left-object, left-stored, left-erased, left-written}
+use Rattle.change.proofs.Records.{written-record, erased-record, lcso-record, slot-record, read-allowed}
 
 module _ (p : ℕ) (b : List ℕ) (s : Stored p b) where
   ok : object-allowed (object-at p b) ≡ true
   ok = stands-allowed p b s
 
   long : length (record-bytes (object-at p b)) ≡ record-size (object-at p b)
-  long = record-length (object-at p b) (allowed-fits (object-at p b) ok)
+  long = record-length (object-at p b) (allowed (object-at p b) ok)
 
   -- bytes put into the store at k of the record are put into the record
   pub put-into : (k : ℕ) (y : List ℕ) → k + length y ≤ record-size (object-at p b) → over (p + k) y b ≡ over p (over k y (record-bytes (object-at p b))) b
@@ -73,7 +65,7 @@ module _ (p : ℕ) (b : List ℕ) (s : Stored p b) where
       set-expression-by r e =
           let (a, q) = read-allowed v h in
           let x = read-expression v in
-          let z : slot-of v ≡ slot x = unfold slot in ap slot-of (sym q) in
+          let z : slot-of v ≡ slot x = unfold slot-of-with in ap slot-of (sym q) in
           e ∙ (λ i. over (p + ek i) (z i) b) ∙
           put-into (slot-at t) (slot x) (omega (arith, slot-length x a, slot-in-head t)) ∙
           ap (λ y. over p y b) (slot-record t x (object-at p b) ok a)
@@ -81,11 +73,11 @@ module _ (p : ℕ) (b : List ℕ) (s : Stored p b) where
   -- the data part ends at e
   module _ (e : ℕ) (end : e ≡ p + head-size + object-at p b .maximum) where
     -- with another count of used bytes the store is as long
-    used-length : (v : ℕ) → length (over (p + 8) (low-first v) b) ≡ length b
-    used-length v = over-length (p + 8) (low-first v) b (omega (arith, s .inside))
+    used-length : (v : ℕ) → length (over (p + 8) (little-endian v) b) ≡ length b
+    used-length v = over-length (p + 8) (little-endian v) b (omega (arith, s .inside))
 
-    pub write-by : (k u v : ℕ) (src b1 d : List ℕ) → k + length src ≤ object-at p b .maximum → u ≡ low-at (p + 8) b → v ≡ max u (k + length src) →
-        b1 ≡ over (p + 8) (low-first v) b → d ≡ over k src (take (e - (p + head-size)) (drop (p + head-size) b1)) →
+    pub write-by : (k u v : ℕ) (src b1 d : List ℕ) → k + length src ≤ object-at p b .maximum → u ≡ used (object-at p b) → v ≡ max u (k + length src) →
+        b1 ≡ over (p + 8) (little-endian v) b → d ≡ over k src (take (e - (p + head-size)) (drop (p + head-size) b1)) →
         take (p + head-size) b1 ++ (d ++ drop (e - (p + head-size)) (drop (p + head-size) b1)) ≡
         with-record p (with-content (put-at k src (object-at p b .content)) (object-at p b)) b
     unfolding with-record
@@ -93,10 +85,10 @@ module _ (p : ℕ) (b : List ℕ) (s : Stored p b) where
         let n : length b1 ≡ length b = ap length e1 ∙ used-length v in
         let q : p + head-size + k ≡ p + (head-size + k) = omega arith in
         lent-over (p + head-size) k (e - (p + head-size)) src d b1 (omega (arith, s .inside)) (omega arith) ed ∙
-        (λ i. over (q i) src (e1 i)) ∙ put-twice 8 (head-size + k) (low-first v) src (omega arith) (omega arith) ∙
-        ap (λ x. over p x b) (written-record (object-at p b) ok k v src h (ev ∙ ap (λ x. max x (k + length src)) (eu ∙ s .used-is)))
+        (λ i. over (q i) src (e1 i)) ∙ put-twice 8 (head-size + k) (little-endian v) src (omega arith) (omega arith) ∙
+        ap (λ x. over p x b) (written-record (object-at p b) ok k v src h (ev ∙ ap (λ x. max x (k + length src)) eu))
 
-    pub erase-by : (b1 d : List ℕ) → b1 ≡ over (p + 8) (low-first 0) b → d ≡ zeros (length (take (e - (p + head-size)) (drop (p + head-size) b1))) →
+    pub erase-by : (b1 d : List ℕ) → b1 ≡ over (p + 8) (little-endian 0) b → d ≡ zeros (length (take (e - (p + head-size)) (drop (p + head-size) b1))) →
         take (p + head-size) b1 ++ (d ++ drop (e - (p + head-size)) (drop (p + head-size) b1)) ≡ with-record p (with-content [] (object-at p b)) b
     unfolding with-record
     erase-by b1 d e1 ed =
@@ -107,12 +99,12 @@ module _ (p : ℕ) (b : List ℕ) (s : Stored p b) where
         let k : length (zeros m) ≡ m = length-replicate m 0 in
         let k′ : length d ≡ e - (p + head-size) = omega (arith, ap length z) in
         lent-whole (p + head-size) (e - (p + head-size)) d b1 k′ ∙
-        (λ i. over (p + head-size) (z i) (e1 i)) ∙ put-twice 8 head-size (low-first 0) (zeros m) (omega arith) (omega arith) ∙
+        (λ i. over (p + head-size) (z i) (e1 i)) ∙ put-twice 8 head-size (little-endian 0) (zeros m) (omega arith) (omega arith) ∙
         ap (λ x. over p x b) (erased-record (object-at p b) ok)
 
   -- a write to the store b1 where all data was zeroed
   module _ (b1 : List ℕ) (e : b1 ≡ with-record p (with-content [] (object-at p b)) b) where
-    erased : Left p b (with-content [] (object-at p b)) b1
+    erased : Rewritten p b (with-content [] (object-at p b)) b1
     erased = left-erased p b (object-at p b) b (left-start p b s) b1 e
 
     pub erased-stored : Stored p b1

@@ -1,3 +1,4 @@
+pub mod Table
 pub mod Tests
 pub mod Parts
 pub mod Steps

@@ -1,5 +1,5 @@
 -- The parts of a command, and the session's last error, as the code reads them.
-use Prim.Native.Nat.{ℕ, _+_, _-_, _<_, _≤_, max}
+use Prim.Native.Nat.{ℕ, _+_, _-_, _<_, _≤_}
 use mathlib.Core.Path.{_≡_, refl, sym, ap, _∙_}
 use mathlib.Core.List.{List, [], _∷_}
 use mathlib.Core.Bool.{Bool, true, false}
@@ -7,22 +7,22 @@ use native.Mathlib.Omega.{arith}
 use borrow.Author.Tests.{le-leb, lt-leb, leb-true, leb-false, lt-ltb, le-ltb, ltb-true, ltb-false}
 use lib.Dec.{leb, ltb}
 use lib.ListN.{length, getD}
-use Rattle.rules.specs.declared.Refusal.{Refusal}
 use Rattle.rules.specs.declared.Row.{Row}
 use Rattle.rules.specs.declared.Session.{Session}
-use Rattle.rules.specs.Command.{asks-flush, cmd, param, row-of, row}
-use Rattle.rules.specs.Response.{code}
+use Rattle.rules.specs.Command.{asks-flush, cmd, param, command-table, line-of, row}
 use Rattle.rules.specs.Session.{with-error}
-use Rattle.rules.specs.Step.{flushed, raised}
+use Rattle.rules.specs.Step.{flushed}
+use Rattle.command.specs.Table.{row-in}
+use Rattle.command.proofs.Table.{rows-alike}
 
 pub empty-flush : (c : List ℕ) → length c < 1 → false ≡ asks-flush c
 unfolding asks-flush
 empty-flush [] h = refl
 empty-flush (x ∷ c) h = absurd (omega arith)
 
-pub row-by : (r : Row) (c : List ℕ) (n : ℕ) → n ≡ cmd c → r ≡ row-of n (getD c 1 0) → r ≡ row c
-unfolding row param
-row-by r c n e f = rw e at f
+pub row-by : (r : Row) (c : List ℕ) (n : ℕ) → n ≡ cmd c → r ≡ row-in command-table n (getD c 1 0) → r ≡ row c
+unfolding row line-of param
+row-by r c n e f = f ∙ ap (λ k. row-in command-table k (param c)) e ∙ rows-alike command-table (cmd c) (param c)
 
 -- the boundary test without a sum
 pub past-limit : (a n limit : ℕ) → limit < a → false ≡ leb (a + n) limit
@@ -46,9 +46,6 @@ after-header n room h = both (ltb (room - 4) n) refl
     both true e = let k = ltb-true (room - 4) n e in e ∙ sym (lt-ltb room (4 + n) (omega arith))
     both false e = let k = ltb-false (room - 4) n e in e ∙ sym (le-ltb room (4 + n) (omega arith))
 
-pub code-by : (w v : Refusal) (r : ℕ) → w ≡ v → r ≡ code v → r ≡ code w
-code-by w v r e f = rw e f
-
 -- the last error
 pub flushes : (c : List ℕ) (s r : Session) (q : Bool) → q ≡ asks-flush c → q ≡ true → r ≡ with-error 0 s → r ≡ flushed c s
 unfolding flushed
@@ -57,11 +54,3 @@ flushes c s r q e h f = rw (← e, h) f
 pub keeps-error : (c : List ℕ) (s : Session) (q : Bool) → q ≡ asks-flush c → q ≡ false → s ≡ flushed c s
 unfolding flushed
 keeps-error c s q e h = rw (← e, h)
-
-pub raised-new : (s r : Session) (k : ℕ) → s .error < k → r ≡ with-error k s → r ≡ raised k s
-unfolding raised
-raised-new s r k h e = let m : k ≡ max (s .error) k = omega arith in e ∙ ap (λ n. with-error n s) m
-
-pub raised-old : (s : Session) (k : ℕ) → k ≤ s .error → s ≡ raised k s
-unfolding raised with-error
-raised-old s k h = let m : s .error ≡ max (s .error) k = omega arith in ap (λ n. with-error n s) m

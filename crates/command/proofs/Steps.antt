@@ -5,23 +5,23 @@ use mathlib.Core.List.{List, [], _∷_}
 use mathlib.Core.Bool.{Bool, true, false, not, _&&_, _||_}
 use native.Mathlib.Omega.{arith}
 use native.Mathlib.Numerals.{add-one}
-use borrow.Author.Tests.{eq-eqb, ne-eqb, lt-ltb, le-ltb, ltb-false}
+use borrow.Author.Tests.{eq-eqb, ne-eqb, lt-ltb, le-ltb, ltb-false, lt-leb, le-leb}
 use borrow.Rule.Slice.PartAt.{part-to-end}
-use lib.Dec.{eqb, ltb}
+use lib.Dec.{eqb, ltb, leb}
 use lib.ListN.{length, getD, take, drop, length-drop}
 use lib.Seq.{drop-cons, drop-length}
-use denote.Enum.Declared.{tagOf}
-use types.Run.{OneOf, miss}
-use Rattle.rules.proofs.Row.{the-type}
 use Rattle.rules.specs.declared.Row.{Row}
-use Rattle.rules.specs.declared.Row.the-variants.{GetData, GetMetadata, Write, EraseAndWrite, SetMetadata, OpenApplication, CloseApplication, Unknown}
+use Rattle.rules.specs.declared.Row.the-variants.{OpenApplication}
+use Rattle.rules.specs.declared.Sizes.{Sizes}
 use Rattle.rules.specs.declared.Session.{Session}
 use Rattle.rules.specs.Basic.{same}
-use Rattle.rules.specs.Command.{cmd, row, known-cmd, is-unknown, length-right, in-length, in-data, identifier}
+use Rattle.rules.specs.Command.{cmd, row, command-table, known-cmd, is-unknown, size-right, in-length, in-data, identifier}
 use Rattle.rules.specs.Hex.{hex, ascii, digits, pairs}
 use Rattle.rules.specs.Expression.{is-state}
-use Rattle.rules.specs.Refusals.{unsound, ill-sized, unknown-cmd, unusable, unknown-param, wrong-length, other-identifier}
+use Rattle.rules.specs.Refusals.{unsound, ill-sized, unknown-cmd, unusable, unknown-param, wrong-length, wrong-content}
 use Rattle.rules.proofs.Tests.{or-parts}
+use Rattle.command.specs.Table.{row-sizes}
+use Rattle.command.proofs.Table.{takes, sizes-alike, takes-by}
 use Rattle.command.proofs.Tests.{fails, goes-on}
 
 -- 2 -----------------------------------------------------------------------------------------------------------------------
@@ -65,7 +65,7 @@ module _ (c : List ℕ) where
   -- 4, 5 --------------------------------------------------------------------------------------------------------------------
 
   module _ (n : ℕ) (e : n ≡ cmd c) where
-    pub unknown-told : (q : Bool) → q ≡ known-cmd n → not q ≡ unknown-cmd c
+    pub unknown-told : (q : Bool) → q ≡ known-cmd command-table n → not q ≡ unknown-cmd c
     unfolding unknown-cmd
     unknown-told q f = rw (f, e)
 
@@ -81,34 +81,24 @@ module _ (c : List ℕ) where
   unfolding unusable
   usable s h o = rw (ne-eqb (s .lcsa) 0x0F h, o)
 
-  -- 6, 7 --------------------------------------------------------------------------------------------------------------------
+-- 6, 7 --------------------------------------------------------------------------------------------------------------------
 
-  module _ (w : Row) (e : w ≡ row c) where
-    pub param-told : (v : Row) (r : Bool) → w ≡ v → r ≡ is-unknown v → r ≡ unknown-param c
-    unfolding unknown-param
-    param-told v r f g = g ∙ ap is-unknown (sym f ∙ e)
+pub param-told : (c : List ℕ) (w v : Row) (r : Bool) → w ≡ row c → w ≡ v → r ≡ is-unknown v → r ≡ unknown-param c
+unfolding unknown-param
+param-told c w v r e f g = g ∙ ap is-unknown (sym f ∙ e)
 
-    -- any case but the last
-    pub param-known : OneOf (0 ∷ 1 ∷ 2 ∷ 3 ∷ 4 ∷ 5 ∷ 6 ∷ []) (tagOf the-type w) → false ≡ unknown-param c
-    unfolding unknown-param is-unknown
-    param-known k = known w k ∙ ap is-unknown e
-      where
-        known : (v : Row) → OneOf (0 ∷ 1 ∷ 2 ∷ 3 ∷ 4 ∷ 5 ∷ 6 ∷ []) (tagOf the-type v) → false ≡ is-unknown v
-        known GetData h = refl
-        known GetMetadata h = refl
-        known Write h = refl
-        known EraseAndWrite h = refl
-        known SetMetadata h = refl
-        known OpenApplication h = refl
-        known CloseApplication h = refl
-        known Unknown h = absurd (miss (0 ∷ 1 ∷ 2 ∷ 3 ∷ 4 ∷ 5 ∷ 6 ∷ []) 7 tt h)
+pub length-told : (c : List ℕ) (w : Row) (z : Sizes) (n : ℕ) (q : Bool) → w ≡ row c → z ≡ row-sizes w → n ≡ 256 * getD c 2 0 + getD c (2 + 1) 0 →
+    q ≡ size-right z n → not q ≡ wrong-length c
+unfolding wrong-length in-length
+length-told c w z n q e f g h = ap not (h ∙ (λ i. size-right ((f ∙ ap row-sizes e ∙ sizes-alike c) i) (g i)))
 
-    pub length-told : (n : ℕ) (q : Bool) → n ≡ 256 * getD c 2 0 + getD c (2 + 1) 0 → q ≡ length-right w n → not q ≡ wrong-length c
-    unfolding wrong-length in-length
-    length-told n q f g = rw (g, e, f)
+pub too-few : (z : Sizes) (n : ℕ) → n < z .least → false ≡ size-right z n
+unfolding size-right
+too-few z n h = fails _ (lt-leb (z .least) n h)
 
-pub right-by : (w v : Row) (n : ℕ) (r : Bool) → w ≡ v → r ≡ length-right v n → r ≡ length-right w n
-right-by w v n r e f = rw e f
+pub not-too-few : (z : Sizes) (n : ℕ) (r : Bool) → z .least ≤ n → r ≡ leb n (z .most) → r ≡ size-right z n
+unfolding size-right
+not-too-few z n r h e = goes-on (le-leb (z .least) n h) e
 
 -- 8 -----------------------------------------------------------------------------------------------------------------------
 
@@ -146,12 +136,11 @@ pub the-identifier : _≡_ {A = List ℕ} (0xD2 ∷ 0x76 ∷ 0x00 ∷ 0x00 ∷ 0
 unfolding identifier hex ascii digits pairs
 the-identifier = refl
 
-pub opens-with : (c d : List ℕ) (n : ℕ) (q : Bool) → n ≡ cmd c → n ≡ 0x70 → q ≡ same (take (length c - 4) (drop 4 c)) d → d ≡ identifier →
-    not q ≡ other-identifier c
-unfolding other-identifier in-data
-opens-with c d n q e h f g =
-    goes-on (eq-eqb (cmd c) 0x70 (sym e ∙ h)) (ap not (f ∙ (λ i. same (part-to-end c 4 i) (g i))))
+pub opens-with : (c d : List ℕ) (w : Row) (q : Bool) → w ≡ row c → w ≡ OpenApplication → q ≡ same d (take (length c - 4) (drop 4 c)) → d ≡ identifier →
+    not q ≡ wrong-content c
+unfolding wrong-content in-data
+opens-with c d w q e h f g = ap not (f ∙ (λ i. same (g i) (part-to-end c 4 i)) ∙ sym (takes-by c (drop 4 c) OpenApplication (sym e ∙ h)))
 
-pub no-open : (c : List ℕ) (n : ℕ) → n ≡ cmd c → (n ≡ 0x70 → ⊥) → false ≡ other-identifier c
-unfolding other-identifier
-no-open c n e h = fails _ (ne-eqb (cmd c) 0x70 (λ q. h (e ∙ q)))
+pub no-content : (c : List ℕ) (w v : Row) → w ≡ row c → w ≡ v → ((b : List ℕ) → takes v b ≡ true) → false ≡ wrong-content c
+unfolding wrong-content
+no-content c w v e h t = ap not (sym (takes-by c _ v (sym e ∙ h) ∙ t _))

@@ -6,7 +6,7 @@ use Rattle.rules.specs.declared.Refusal.{Refusal}
 use Rattle.rules.specs.declared.Verdict.{Verdict}
 use Rattle.rules.specs.declared.Verdict.the-variants.{Refused}
 use Rattle.rules.specs.Basic.{if_then_else_}
-use Rattle.rules.specs.Refusals.{_refused_or_}
+use Rattle.rules.specs.Chain.{_refused_or_}
 
 -- a step: its test holds, or it does not and the later steps decide
 pub stop : {t : Bool} (k : Refusal) (later : Verdict) → t ≡ true → Refused k ≡ (t refused k or later)
@@ -25,9 +25,6 @@ pub next-call : {t q : Bool} {v : Verdict} (k : Refusal) (later : Verdict) → q
 next-call k later e h f = next k later (sym e ∙ h) f
 
 pub ruleset steps = (stop-call, next-call, refl)
-
--- steps whose test is given, then one that was called
-pub ruleset late-steps = (stop, next, stop-call, next-call, refl)
 
 -- a choice by a test that was called
 pub if-call : {A : Type 0} {t q : Bool} {r x : A} (y : A) → q ≡ t → q ≡ true → r ≡ x → r ≡ (if t then x else y)

@@ -1,15 +1,13 @@
--- What a command is that passed the steps 2 to 8, and how long it is at least.
+-- What a command is that passed the steps 2 to 8.
 use Prim.Native.Nat.{ℕ, _-_, _≤_}
 use mathlib.Core.Bool.{Bool, true, false}
 use mathlib.Core.List.{List}
 use mathlib.Core.Path.{_≡_}
 use lib.ListN.{length}
-use Rattle.rules.specs.declared.Row.{Row}
-use Rattle.rules.specs.declared.Row.the-variants.{GetData, GetMetadata, Write, EraseAndWrite, SetMetadata, OpenApplication, CloseApplication, Unknown}
 use Rattle.rules.specs.declared.Session.{Session}
-use Rattle.rules.specs.Command.{row, in-length, is-unknown, length-right}
+use Rattle.rules.specs.Command.{row, in-length, is-unknown}
 use Rattle.rules.specs.Expression.{is-state}
-use Rattle.rules.specs.Refusals.{unusable, other-identifier}
+use Rattle.rules.specs.Refusals.{unusable, wrong-length, wrong-content}
 
 -- `sound`: the store is not malformed
 pub record InForm (sound : Bool) (c : List ℕ) (s : Session) : Type 0 where
@@ -21,16 +19,5 @@ pub record InForm (sound : Bool) (c : List ℕ) (s : Session) : Type 0 where
   pub in-length-told : in-length c ≡ length c - 4
   pub usable : unusable c s ≡ false
   pub known-row : is-unknown (row c) ≡ false
-  pub right-length : length-right (row c) (length c - 4) ≡ true
-  pub identified : other-identifier c ≡ false
-
--- a command of each row has so many bytes or more
-unfoldable pub least : Row → ℕ
-least GetData = 10
-least GetMetadata = 6
-least Write = 9
-least EraseAndWrite = 9
-least SetMetadata = 8
-least OpenApplication = 20
-least CloseApplication = 4
-least Unknown = 4
+  pub right-length : wrong-length c ≡ false
+  pub right-content : wrong-content c ≡ false

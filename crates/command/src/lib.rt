@@ -1,23 +1,25 @@
-// A command's parts, the steps of the refusals that look at no object, and the session's last error.
+// A command's parts, the steps of the refusals that look at no object, and the flush.
+use rules::Action;
 use rules::Length;
 use rules::ObjectNumber;
 use rules::Offset;
 use rules::Refusal;
 use rules::Row;
 use rules::Session;
+use rules::Sizes;
 use rules::Verdict;
 ghost use mathlib.Core.Path.{_≡_};
 ghost use Prim.Native.Nat.{_+_, _≤_};
 ghost use lib.Dec.{leb, ltb};
 ghost use lib.ListN.{length};
 ghost use Rattle.rules.specs.Basic.{same};
-ghost use Rattle.rules.specs.Command.{asks-flush, cmd, row-of, row, known-cmd, length-right};
+ghost use Rattle.rules.specs.Command.{asks-flush, cmd, command-table, row, known-cmd, size-right};
 ghost use Rattle.rules.specs.Command.{object-number, offset, asked-length, sent-data, sent-metadata};
-ghost use Rattle.rules.specs.Refusals.{unsound, ill-sized, unknown-cmd, unusable, unknown-param, wrong-length, other-identifier};
-ghost use Rattle.rules.specs.Refusals.{early, late};
+ghost use Rattle.rules.specs.Refusals.{unsound, ill-sized, unknown-cmd, unusable, unknown-param, wrong-length, wrong-content};
+ghost use Rattle.rules.specs.Refusals.{early, fitting};
 ghost use Rattle.rules.specs.Response.{code};
-ghost use Rattle.rules.specs.Session.{with-error};
-ghost use Rattle.rules.specs.Step.{flushed, raised};
+ghost use Rattle.rules.specs.Step.{flushed};
+ghost use Rattle.command.specs.Table.{row-in, action-sizes, row-sizes};
 
 // Bytes of a response before its answer: status, 00 and OutLen.
 const HEADER: usize = 4;
@@ -43,27 +45,27 @@ fn cmd(command: &[u8]) -> u8
 }
 
 fn row_of(cmd: u8, param: u8) -> Row
-    ensures { λ r. ⌜ r ≡ row-of cmd param ⌝ }
+    ensures { λ r. ⌜ r ≡ row-in command-table cmd param ⌝ }
 {
-    if primitives::both(cmd == 0x01, param == 0x00) {
-        return Row::GetData;
+    if primitives::and(cmd == 0x01, param == 0x00) {
+        return Row::OnObject(Action::GetData);
     }
-    if primitives::both(cmd == 0x01, param == 0x01) {
-        return Row::GetMetadata;
+    if primitives::and(cmd == 0x01, param == 0x01) {
+        return Row::OnObject(Action::GetMetadata);
     }
-    if primitives::both(cmd == 0x02, param == 0x00) {
-        return Row::Write;
+    if primitives::and(cmd == 0x02, param == 0x00) {
+        return Row::OnObject(Action::Write);
     }
-    if primitives::both(cmd == 0x02, param == 0x40) {
-        return Row::EraseAndWrite;
+    if primitives::and(cmd == 0x02, param == 0x40) {
+        return Row::OnObject(Action::EraseAndWrite);
     }
-    if primitives::both(cmd == 0x02, param == 0x01) {
-        return Row::SetMetadata;
+    if primitives::and(cmd == 0x02, param == 0x01) {
+        return Row::OnObject(Action::SetMetadata);
     }
-    if primitives::both(cmd == 0x70, param == 0x00) {
+    if primitives::and(cmd == 0x70, param == 0x00) {
         return Row::OpenApplication;
     }
-    if primitives::both(cmd == 0x71, param == 0x00) {
+    if primitives::and(cmd == 0x71, param == 0x00) {
         return Row::CloseApplication;
     }
     Row::Unknown
@@ -80,21 +82,21 @@ pub fn object_number(command: &[u8]) -> ObjectNumber
     requires { ⌜ 6 ≤ length (now command) ⌝ }
     ensures { λ r. ⌜ r .0 ≡ object-number (now (command .entry)) ⌝ }
 {
-    ObjectNumber(primitives::high_at(command, 4))
+    ObjectNumber(primitives::big_endian_at(command, 4))
 }
 
 pub fn offset(command: &[u8]) -> Offset
     requires { ⌜ 8 ≤ length (now command) ⌝ }
     ensures { λ r. ⌜ r .0 ≡ offset (now (command .entry)) ⌝ }
 {
-    Offset(primitives::high_at(command, 6) as usize)
+    Offset(primitives::big_endian_at(command, 6) as usize)
 }
 
 pub fn asked_length(command: &[u8]) -> Length
     requires { ⌜ 10 ≤ length (now command) ⌝ }
     ensures { λ r. ⌜ r .0 ≡ asked-length (now (command .entry)) ⌝ }
 {
-    Length(primitives::high_at(command, 8) as usize)
+    Length(primitives::big_endian_at(command, 8) as usize)
 }
 
 pub fn sent_data(command: &[u8]) -> &[u8]
@@ -137,11 +139,12 @@ fn ill_sized(command: &[u8]) -> bool
     if 1557 < n {
         return true;
     }
-    primitives::high_at(command, 2) as usize != n - 4
+    primitives::big_endian_at(command, 2) as usize != n - 4
 }
 
+// Whether a line of the command table has this Cmd.
 fn known_cmd(n: u8) -> bool
-    ensures { λ r. ⌜ r ≡ known-cmd n ⌝ }
+    ensures { λ r. ⌜ r ≡ known-cmd command-table n ⌝ }
 {
     if n == 0x01 {
         return true;
@@ -184,24 +187,56 @@ fn unknown_param(command: &[u8]) -> bool
 {
     let asked = row_of_command(command);
     match asked {
+        Row::OnObject(_) => false,
+        Row::OpenApplication => false,
+        Row::CloseApplication => false,
         Row::Unknown => true,
-        _ => false,
     }
 }
 
-fn length_right(asked: Row, n: usize) -> bool
-    ensures { λ r. ⌜ r ≡ length-right asked n ⌝ }
+// How many bytes InData may have: InLen is a number of two bytes.
+fn action_sizes(asked: Action) -> Sizes
+    ensures { λ r. ⌜ r ≡ action-sizes asked ⌝ }
 {
     match asked {
-        Row::GetData => n == 6,
-        Row::GetMetadata => n == 2,
-        Row::Write => 5 <= n,
-        Row::EraseAndWrite => 5 <= n,
-        Row::SetMetadata => 4 <= n,
-        Row::OpenApplication => n == 16,
-        Row::CloseApplication => n == 0,
-        Row::Unknown => false,
+        Action::GetData => Sizes { least: 6, most: 6 },
+        Action::GetMetadata => Sizes { least: 2, most: 2 },
+        Action::Write => Sizes {
+            least: 5,
+            most: 0xFFFF,
+        },
+        Action::EraseAndWrite => Sizes {
+            least: 5,
+            most: 0xFFFF,
+        },
+        Action::SetMetadata => Sizes {
+            least: 4,
+            most: 0xFFFF,
+        },
     }
+}
+
+fn row_sizes(asked: Row) -> Sizes
+    ensures { λ r. ⌜ r ≡ row-sizes asked ⌝ }
+{
+    match asked {
+        Row::OnObject(action) => action_sizes(action),
+        Row::OpenApplication => Sizes {
+            least: 16,
+            most: 16,
+        },
+        Row::CloseApplication => Sizes { least: 0, most: 0 },
+        Row::Unknown => Sizes { least: 1, most: 0 },
+    }
+}
+
+fn size_right(sizes: Sizes, n: usize) -> bool
+    ensures { λ r. ⌜ r ≡ size-right sizes n ⌝ }
+{
+    if n < sizes.least {
+        return false;
+    }
+    n <= sizes.most
 }
 
 // Step 7.
@@ -209,10 +244,8 @@ fn wrong_length(command: &[u8]) -> bool
     requires { ⌜ 4 ≤ length (now command) ⌝ }
     ensures { λ r. ⌜ r ≡ wrong-length (now (command .entry)) ⌝ }
 {
-    !length_right(
-        row_of_command(command),
-        primitives::high_at(command, 2) as usize,
-    )
+    let sizes = row_sizes(row_of_command(command));
+    !size_right(sizes, primitives::big_endian_at(command, 2) as usize)
 }
 
 fn same(a: &[u8], b: &[u8]) -> bool
@@ -231,15 +264,18 @@ fn same(a: &[u8], b: &[u8]) -> bool
     true
 }
 
-// Step 8.
-fn other_identifier(command: &[u8]) -> bool
+// Step 8: only an open must send the identifier.
+fn wrong_content(command: &[u8]) -> bool
     requires { ⌜ 4 ≤ length (now command) ⌝ }
-    ensures { λ r. ⌜ r ≡ other-identifier (now (command .entry)) ⌝ }
+    ensures { λ r. ⌜ r ≡ wrong-content (now (command .entry)) ⌝ }
 {
-    if cmd(command) == 0x70 {
-        return !same(&command[4..], b"\xD2\x76\x00\x00\x04GenAuthAppl");
+    let asked = row_of_command(command);
+    match asked {
+        Row::OnObject(_) => false,
+        Row::OpenApplication => !same(b"\xD2\x76\x00\x00\x04GenAuthAppl", &command[4..]),
+        Row::CloseApplication => false,
+        Row::Unknown => false,
     }
-    false
 }
 
 // The steps 2 to 8, in their order.
@@ -264,13 +300,13 @@ pub fn early(sound: bool, command: &[u8], session: Session) -> Verdict
     if wrong_length(command) {
         return Verdict::Refused(Refusal::InvalidLength);
     }
-    if other_identifier(command) {
+    if wrong_content(command) {
         return Verdict::Refused(Refusal::InvalidData);
     }
     Verdict::Accepted
 }
 
-// The steps 10 to 13.
+// The steps 11 and 13.
 
 // So many bytes from an offset stay within a limit: the boundary test of step 11. A difference, since a sum could wrap.
 pub fn fits(from: Offset, count: Length, limit: Length) -> bool
@@ -293,25 +329,16 @@ fn too_long(answer: Length, room: usize) -> bool
 }
 
 // The verdict on an answer of so many bytes, for a room of this size.
-pub fn late(granted: bool, within: bool, allowed: bool, answer: Length, room: usize) -> Verdict
-    ensures { λ r. ⌜ r ≡ late granted within allowed (answer .0) room ⌝ }
+pub fn fitting(answer: Length, room: usize) -> Verdict
+    ensures { λ r. ⌜ r ≡ fitting (answer .0) room ⌝ }
 {
-    if !granted {
-        return Verdict::Refused(Refusal::AccessDenied);
-    }
-    if !within {
-        return Verdict::Refused(Refusal::BoundaryExceeded);
-    }
-    if !allowed {
-        return Verdict::Refused(Refusal::InvalidData);
-    }
     if too_long(answer, room) {
         return Verdict::Refused(Refusal::InsufficientBuffer);
     }
     Verdict::Accepted
 }
 
-// What a refusal, and a flush, leave in the session.
+// A refusal's number, and the flush.
 
 pub fn code(refusal: Refusal) -> u8
     ensures { λ r. ⌜ r ≡ code refusal ⌝ }
@@ -330,33 +357,12 @@ pub fn code(refusal: Refusal) -> u8
     }
 }
 
-fn with_error(session: Session, error: u8) -> Session
-    ensures { λ r. ⌜ r ≡ with-error error session ⌝ }
-{
-    Session {
-        opened: session.opened,
-        lcsg: session.lcsg,
-        lcsa: session.lcsa,
-        error: error,
-    }
-}
-
 // The last error becomes 0 where the command asks for it.
 pub fn flushed(command: &[u8], session: Session) -> Session
     ensures { λ r. ⌜ r ≡ flushed (now (command .entry)) session ⌝ }
 {
     if asks_flush(command) {
-        return with_error(session, 0);
-    }
-    session
-}
-
-// The larger error is kept.
-pub fn raised(session: Session, code: u8) -> Session
-    ensures { λ r. ⌜ r ≡ raised code session ⌝ }
-{
-    if session.error < code {
-        return with_error(session, code);
+        return session::with_error(0, session);
     }
     session
 }

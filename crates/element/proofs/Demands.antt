@@ -2,17 +2,19 @@
 -- lent (command, room, store, session) and what it left (answer, room, store).
 use Prim.Native.Nat.{ℕ, _<_}
 use mathlib.Core.Bool.{true}
-use mathlib.Core.List.{List}
+use mathlib.Core.List.{List, [], _∷_}
 use mathlib.Core.Option.{some}
 use mathlib.Core.Path.{_≡_, sym, subst, _∙_}
 use lib.ListN.{length}
 use Rattle.rules.specs.declared.Session.{Session}
-use Rattle.rules.specs.declared.Row.the-variants.{GetData}
+use Rattle.rules.specs.declared.Action.{Action}
+use Rattle.rules.specs.declared.Action.the-variants.{GetData}
+use Rattle.rules.specs.declared.Row.the-variants.{OnObject}
 use Rattle.rules.specs.Command.{row, object-number}
 use Rattle.rules.specs.Object.{Object}
 use Rattle.rules.specs.Layout.{find}
 use Rattle.rules.specs.Step.{After, flushed}
-use Rattle.rules.specs.Demand.{is-done, is-refused, SomeRefusal, Answered, Ready, writes, WritesExactly, ReadsExactly, MayReadByte, byte-shown, Shown}
+use Rattle.rules.specs.Demand.{is-done, is-refused, SomeRefusal, Answered, Ready, writes, WritesExactly, ReadsExactly, MayReadByte, bytes-shown, after-byte, Shown}
 use Rattle.rules.proofs.Demand1.{every-command-answered, no-room-changes-nothing, refusal-changes-last-error-only}
 use Rattle.rules.proofs.Demand2.{write-exactly-when, read-exactly-when}
 use Rattle.rules.proofs.Shown.{read-only-when, byte-read-when}
@@ -34,19 +36,19 @@ module _ (c room store : List ℕ) (s : Session) (r : Answer) (room′ store′ 
   execute-no-room h = call ∙ no-room-changes-nothing c room store s h
 
   -- demand 2: a data read that is done shows exactly the stored bytes, the read condition holding, with nothing assumed of store and session
-  pub execute-shows : row c ≡ GetData → is-done (executed r room′ store′) ≡ true → Shown c room store s (executed r room′ store′)
+  pub execute-shows : row c ≡ OnObject GetData → is-done (executed r room′ store′) ≡ true → Shown c room store s (executed r room′ store′)
   execute-shows g = subst (λ (a : After). is-done a ≡ true → Shown c room store s a) (sym call) (read-only-when c room store s g)
 
   -- demand 2: the byte of an object of the session is shown whenever it may be
-  pub execute-shows-byte : (os : List Object) (byte : ℕ) → Ready room store s os → row c ≡ GetData → MayReadByte c (length room) (flushed c s) byte →
-      executed r room′ store′ ≡ byte-shown c byte room store (flushed c s)
+  pub execute-shows-byte : (os : List Object) (byte : ℕ) → Ready room store s os → row c ≡ OnObject GetData → MayReadByte c (length room) (flushed c s) byte →
+      executed r room′ store′ ≡ bytes-shown c (byte ∷ []) room store (after-byte c (flushed c s))
   execute-shows-byte os byte ready g m = call ∙ byte-read-when c room store s os byte ready g m
 
   module _ (os : List Object) (o : Object) (ready : Ready room store s os) (finds : find (object-number c) os ≡ some o) where
     -- demand 2: a write to a stored object makes its change exactly when it may
-    pub execute-writes : writes (row c) ≡ true → WritesExactly c room store s os o (executed r room′ store′)
-    execute-writes w = subst (λ (a : After). WritesExactly c room store s os o a) (sym call) (write-exactly-when c room store s os o ready w finds)
+    pub execute-writes : (a : Action) → row c ≡ OnObject a → writes a ≡ true → WritesExactly a c room store s os o (executed r room′ store′)
+    execute-writes a g w = subst (λ (x : After). WritesExactly a c room store s os o x) (sym call) (write-exactly-when c room store s os o ready a g w finds)
 
     -- demand 2: a data read shows exactly the stored bytes, and only when the read condition holds
-    pub execute-reads : row c ≡ GetData → ReadsExactly c room store s o (executed r room′ store′)
-    execute-reads g = subst (λ (a : After). ReadsExactly c room store s o a) (sym call) (read-exactly-when c room store s os o ready g finds)
+    pub execute-reads : row c ≡ OnObject GetData → ReadsExactly c room store s os o (executed r room′ store′)
+    execute-reads g = subst (λ (a : After). ReadsExactly c room store s os o a) (sym call) (read-exactly-when c room store s os o ready g finds)

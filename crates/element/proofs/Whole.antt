@@ -1,193 +1,278 @@
 -- From the parts to one command: the ways out of `perform`, `on_object`, `carry_out` and `execute`.
-use Prim.Native.Nat.{ℕ, _<_, _≤_}
+use Prim.Native.Nat.{ℕ, _+_, _<_, _≤_}
 use mathlib.Core.Path.{_≡_, refl, sym, ap, _∙_}
-use mathlib.Core.Bool.{Bool, true, false, false≢true}
+use mathlib.Core.Bool.{Bool, true, false, not, false≢true}
 use mathlib.Core.List.{List, []}
 use mathlib.Core.Option.{Option, none, some}
 use native.Mathlib.Omega.{arith}
-use borrow.Author.Tests.{lt-ltb, le-ltb}
+use borrow.Author.Tests.{leb-true, lt-ltb, le-ltb, not-false}
 use lib.ListN.{length}
 use Rattle.rules.specs.declared.ObjectNumber.{ObjectNumber}
+use Rattle.rules.specs.declared.Kind.{Kind}
 use Rattle.rules.specs.declared.Session.{Session}
 use Rattle.rules.specs.declared.Found.the-variants as found-at
 use Rattle.rules.specs.declared.Refusal.{Refusal}
 use Rattle.rules.specs.declared.Verdict.{Verdict}
 use Rattle.rules.specs.declared.Verdict.the-variants.{Refused, Accepted}
+use Rattle.rules.specs.declared.Action.{Action}
+use Rattle.rules.specs.declared.Action.the-variants.{GetData, GetMetadata, Write, EraseAndWrite, SetMetadata}
 use Rattle.rules.specs.declared.Row.{Row}
-use Rattle.rules.specs.declared.Row.the-variants.{GetData, GetMetadata, Write, EraseAndWrite, SetMetadata, OpenApplication, CloseApplication, Unknown}
+use Rattle.rules.specs.declared.Row.the-variants.{OnObject, OpenApplication, CloseApplication, Unknown}
 use Rattle.rules.specs.Basic.{is-some, or-else}
-use Rattle.rules.specs.Command.{row, object-number}
+use Rattle.rules.specs.Command.{row, object-number, offset, asked-length, sent-data}
 use Rattle.rules.specs.Response.{code, done-response, refused-response, put-in-front}
-use Rattle.rules.specs.Object.{Object, in-session}
-use Rattle.rules.specs.Layout.{unpack, found}
+use Rattle.rules.specs.Object.{Object, used, of-session, in-session, object-allowed}
+use Rattle.rules.specs.Layout.{pack, unpack, found}
+use Rattle.rules.specs.Factory.{fresh-session}
 use Rattle.rules.specs.Session.{session-object, with-opened}
-use Rattle.rules.specs.Operation.{getting, getting-metadata, writing, setting-session, operation, named, no-object, requested}
-use Rattle.rules.specs.Refusals.{_refused_or_, _and-then_, no-such-object, early, late, late-of, from-nine, verdict}
-use Rattle.rules.specs.Step.{raised, declined, stored, performed, answered, judged, flushed, unanswered, step}
+use Rattle.rules.specs.Chain.{_and-then_}
+use Rattle.rules.specs.Access.{Seen, seen, seen-in, named, granted}
+use Rattle.rules.specs.Operation.{getting, getting-metadata, writing, setting-metadata, operation, setting-session}
+use Rattle.rules.specs.Refusals.{early, Ruling, ruling-on, ruling-of, ruling, late, verdict}
+use Rattle.rules.specs.Step.{raised, declined, replacing, performed, answered, judged, flushed, unanswered, step}
 use Rattle.rules.proofs.Tests.{some-else}
-use Rattle.rules.proofs.Verdicts.{LatePassed, late-passed, late-accepts, nine-passed}
-use Rattle.rules.proofs.Keeps.{operation-fitting}
-use Rattle.rules.proofs.Rows.{gets-or-sets}
-use Rattle.store.specs.Places.{object-at, Stored}
-use Rattle.store.proofs.Standing.{standing}
+use Rattle.rules.proofs.Facts.{allowed}
+use Rattle.rules.proofs.Inverse.{pack-unpack}
+use Rattle.rules.proofs.Verdicts.{passed, fitting-passed, fitting-accepts, LatePassed, late-passed}
+use Rattle.rules.proofs.Fitting.{operation-fitting, operation-outside}
+use Rattle.rules.proofs.Views.{Alike, operation-alike, session-left}
+use Rattle.rules.proofs.Demand2.{shown-length}
+use Rattle.record.specs.Places.{object-at, Stored}
+use Rattle.record.proofs.Standing.{standing}
 use Rattle.store.proofs.Placing.{recorded-there}
-use Rattle.command.specs.InForm.{InForm}
-use Rattle.command.proofs.InForm.{in-form, names-none, no-unknown-row}
+use Rattle.command.specs.Table.{InFull}
+use Rattle.command.proofs.InForm.{in-form, action-in-full, object-long}
 use Rattle.judge.specs.declared.Target.{Target}
 use Rattle.judge.specs.declared.Target.the-variants.{InSession, InStore, Nothing}
-use Rattle.judge.specs.Targets.{kept, target-object, Placed}
-use Rattle.judge.proofs.Judging.{at-nothing}
+use Rattle.judge.specs.Targets.{target-object, Placed}
+use Rattle.judge.specs.Verdicts.{session-verdict}
+use Rattle.judge.proofs.Judging.{session-judged}
+use Rattle.act.specs.Acting.{session-does, record-does, InSessionMay, OnRecordMay, stored-at}
 use Rattle.element.specs.declared.Answer.{Answer}
-use Rattle.element.specs.Executed.{executed, Executes, stored-at, opens}
-use Rattle.element.proofs.Doing.{record-session, no-set, not-open, not-close, not-unknown}
+use Rattle.element.specs.Executed.{executed, Executes}
 
-refused-not-accepted : {r : Refusal} {v : Verdict} → Refused r ≡ v → v ≡ Accepted → ⊥
-refused-not-accepted e h = let z : _≡_ {A = ℕ} 0 1 = cc in omega arith
+not-accepted : {r : Refusal} → Refused r ≡ Accepted → ⊥
+not-accepted h = let z : _≡_ {A = ℕ} 0 1 = cc in omega arith
+
+-- a verdict that was called
+pub was-accepted : (v w : Verdict) → v ≡ w → v ≡ Accepted → w ≡ Accepted
+was-accepted v w e h = sym e ∙ h
+
+-- a refusal's number
+pub refused-by : (k : ℕ) (r : Refusal) (s t : Session) → k ≡ code r → t ≡ raised k s → t ≡ raised (code r) s
+refused-by k r s t e f = f ∙ ap (λ n. raised n s) e
 
 -- an accepted get or set ----------------------------------------------------------------------------------------------------------
 
-module _ (c b : List ℕ) (s : Session) (w : Row) (ew : w ≡ row c) (aim : Target) (ea : target-object aim b ≡ named c (or-else (unpack b) []) s) where
+-- what the verdict at an object of the session has told
+session-told : (a : Action) (c : List ℕ) (k : Kind) (byte room : ℕ) → session-verdict a c k byte room ≡ Accepted → InSessionMay a c room
+session-told GetData c k byte room h =
+    let p = passed _ _ _ h in
+    (leb-true (offset c + asked-length c) 1 (not-false _ (p .0)), fitting-passed (asked-length c) room (p .1))
+session-told GetMetadata c k byte room h = absurd (not-accepted h)
+session-told Write c k byte room h = fitting-passed 0 room (passed _ _ _ (passed _ _ _ (passed _ _ _ h .1) .1) .1)
+session-told EraseAndWrite c k byte room h = fitting-passed 0 room (passed _ _ _ (passed _ _ _ (passed _ _ _ h .1) .1) .1)
+session-told SetMetadata c k byte room h = absurd (not-accepted h)
+
+-- and at a found record
+record-told : (a : Action) (c : List ℕ) (o : Object) (see : Seen) (room : ℕ) → LatePassed a c o see room → OnRecordMay a c o room
+unfolding operation getting getting-metadata writing setting-metadata
+record-told GetData c o see room l =
+    let within = leb-true (offset c + asked-length c) (used o) (not-false _ (passed _ _ _ (l .own) .0)) in
+    (within, omega (arith, l .fits, shown-length c (o .content) within))
+record-told GetMetadata c o see room l = l .fits
+record-told Write c o see room l = (leb-true (offset c + length (sent-data c)) (o .maximum) (not-false _ (passed _ _ _ (l .own) .0)), l .fits)
+record-told EraseAndWrite c o see room l = (leb-true (offset c + length (sent-data c)) (o .maximum) (not-false _ (passed _ _ _ (l .own) .0)), l .fits)
+record-told SetMetadata c o see room l = (not-false _ (passed _ _ _ (l .own) .0), l .fits)
+
+-- what is done at an object of the session does not depend on its kind, nor on stored objects
+session-alike : (a : Action) (c : List ℕ) (n byte room : ℕ) (k : Kind) (os : List Object) (s : Session) → InSessionMay a c room →
+    (session-does a c n byte s .session ≡ operation a c (session-object n k byte) (seen os s) .session) ×
+    (session-does a c n byte s .answer ≡ operation a c (session-object n k byte) (seen os s) .answer)
+unfolding operation getting writing session-object seen
+session-alike GetData c n byte room k os s m = (refl, refl)
+session-alike GetMetadata c n byte room k os s m = absurd m
+session-alike Write c n byte room k os s m = (refl, refl)
+session-alike EraseAndWrite c n byte room k os s m = (refl, refl)
+session-alike SetMetadata c n byte room k os s m = absurd m
+
+module _ (a : Action) (c b : List ℕ) (s : Session) (aim : Target) (t : Placed aim c b) where
   abbrev os : List Object
   os = or-else (unpack b) []
 
-  requested-at : (o : Object) → target-object aim b ≡ some o → requested c (named c os s) s ≡ operation w c o s
-  unfolding requested
-  requested-at o eo = rw (← ea, eo, ← ew)
+  abbrev see : Seen
+  see = seen-in b s
 
-  late-at : (o : Object) (room : ℕ) → target-object aim b ≡ some o → from-nine c room (named c os s) s ≡ Accepted → late-of (operation w c o s) room ≡ Accepted
-  late-at o room eo h =
-      ap (λ p. late-of p room) (sym (requested-at o eo)) ∙ late-accepts (requested c (named c os s) s) room (nine-passed c room (named c os s) s h .1)
+  -- the verdict was: accepted
+  module _ (room : ℕ) (h : late (ruling-on a c (target-object aim b) (seen-in b s)) room ≡ Accepted) where
+    session-late : (n : ObjectNumber) (k : Kind) (byte : ℕ) → aim ≡ InSession n k byte → LatePassed a c (session-object (n .0) k byte) see room
+    unfolding target-object
+    session-late n k byte e = late-passed a c (session-object (n .0) k byte) see room (rw e at h)
 
-  pub session-late : (room : ℕ) (n : ObjectNumber) (byte : ℕ) (wr : Bool) → aim ≡ InSession n byte wr → from-nine c room (named c os s) s ≡ Accepted →
-      late-of (operation w c (kept (n .0) byte wr) s) room ≡ Accepted
-  unfolding target-object
-  session-late room n byte wr e h = late-at (kept (n .0) byte wr) room (rw e) h
+    pub session-may : (n : ObjectNumber) (k : Kind) (byte : ℕ) → aim ≡ InSession n k byte → InSessionMay a c room
+    unfolding target-object
+    session-may n k byte e =
+        let of : of-session k ≡ true = rw e at t in
+        session-told a c k byte room (session-judged c (n .0) byte k see room of a ∙ rw e at h)
 
-  pub record-late : (room p : ℕ) → aim ≡ InStore p → from-nine c room (named c os s) s ≡ Accepted → late-of (operation w c (object-at p b) s) room ≡ Accepted
-  unfolding target-object
-  record-late room p e h = late-at (object-at p b) room (rw e) h
+    record-late : (p : ℕ) → aim ≡ InStore p → LatePassed a c (object-at p b) see room
+    unfolding target-object
+    record-late p e = late-passed a c (object-at p b) see room (rw e at h)
 
-  pub nothing-late : (room : ℕ) → InForm true c s → gets-or-sets w ≡ true → aim ≡ Nothing → from-nine c room (named c os s) s ≡ Accepted → ⊥
-  nothing-late room i g e h = refused-not-accepted (at-nothing c b os s room w ew aim ea i g e) h
+    pub record-may : (p : ℕ) → aim ≡ InStore p → OnRecordMay a c (object-at p b) room
+    record-may p e = record-told a c (object-at p b) see room (record-late p e)
 
-  -- at an object of the session nothing is stored
-  module _ (g : gets-or-sets w ≡ true) (room xs : List ℕ) (h : from-nine c (length room) (named c os s) s ≡ Accepted) where
-    nothing-stored : (n : ObjectNumber) (byte : ℕ) (wr : Bool) → in-session (n .0) ≡ true → aim ≡ InSession n byte wr → operation w c (kept (n .0) byte wr) s .stores ≡ none
-    nothing-stored n byte wr i e = go w refl
-      where
-        go : (v : Row) → w ≡ v → operation w c (kept (n .0) byte wr) s .stores ≡ none
-        go GetData q = unfold operation getting in rw q
-        go GetMetadata q = unfold operation getting-metadata in rw q
-        go Write q = unfold operation writing kept session-object in rw (q, i)
-        go EraseAndWrite q = unfold operation writing kept session-object in rw (q, i)
-        go SetMetadata q = absurd (no-set w c (n .0) byte wr s (length room) i q (session-late (length room) n byte wr e h))
-        go OpenApplication q = absurd (not-open w q g)
-        go CloseApplication q = absurd (not-close w q g)
-        go Unknown q = absurd (not-unknown w q g)
+    pub nothing-late : aim ≡ Nothing → ⊥
+    unfolding target-object late ruling-on _and-then_
+    nothing-late e = not-accepted (rw e at h)
 
-    pub session-done : (n : ObjectNumber) (byte : ℕ) (wr : Bool) (r : Session) → in-session (n .0) ≡ true → aim ≡ InSession n byte wr →
-        r ≡ operation w c (kept (n .0) byte wr) s .session → xs ≡ put-in-front (done-response (operation w c (kept (n .0) byte wr) s .answer)) room →
-        executed (record { outcome = 0; session = r }) xs b ≡ performed (requested c (named c os s) s) room b os
-    unfolding performed stored target-object
-    session-done n byte wr r i e er ex =
-        rw (requested-at (kept (n .0) byte wr) (rw e), nothing-stored n byte wr i e)
-        (λ j. record { outcome = 0; room = ex j; store = b; session = er j })
+  module _ (sound : is-some (unpack b) ≡ true) where
+    unpacked : unpack b ≡ some os
+    unpacked = some-else (unpack b) [] sound
 
-    pub record-done : (p : ℕ) (b′ : List ℕ) → is-some (unpack b) ≡ true → aim ≡ InStore p → Placed aim c b →
-        b′ ≡ stored-at p (operation w c (object-at p b) s .stores) b → xs ≡ put-in-front (done-response (operation w c (object-at p b) s .answer)) room →
-        executed (record { outcome = 0; session = s }) xs b′ ≡ performed (requested c (named c os s) s) room b os
-    unfolding performed target-object
-    record-done p b′ u e t eb ex =
-        rw (requested-at (object-at p b) (rw e))
-        (λ j. record { outcome = 0; room = ex j; store = (eb ∙ same-store) j; session = record-session p b (there .0) w c s g j })
-      where
-        there : Stored p b × (found (object-number c) os ≡ found-at.At p)
-        there = rw e at t
+    -- where nothing is stored, the packing is the store
+    packed : b ≡ pack (replacing none os)
+    unfolding replacing
+    packed = sym (pack-unpack b os unpacked .0)
 
-        late-there : LatePassed (operation w c (object-at p b) s) (length room)
-        late-there = late-passed (operation w c (object-at p b) s) (length room) (record-late (length room) p e h)
+    module _ (room xs : List ℕ) (h : late (ruling-on a c (target-object aim b) (seen-in b s)) (length room) ≡ Accepted) where
+      -- at an object of the session nothing is stored
+      nothing-stored : (n : ObjectNumber) (k : Kind) (byte : ℕ) → aim ≡ InSession n k byte → operation a c (session-object (n .0) k byte) see .stores ≡ none
+      unfolding session-object
+      nothing-stored n k byte e = by (operation a c (session-object (n .0) k byte) see .stores) refl
+        where
+          of : of-session k ≡ true
+          of = rw e at t
 
-        same-store : stored-at p (operation w c (object-at p b) s .stores) b ≡ stored (operation w c (object-at p b) s .stores) b os
-        same-store = go (operation w c (object-at p b) s .stores) refl
-          where
-            go : (m : Option Object) → operation w c (object-at p b) s .stores ≡ m → stored-at p m b ≡ stored m b os
-            go none q = unfold stored-at stored in refl
-            go (some new) q =
-                let f = operation-fitting w c (object-at p b) s new (standing p b (there .0 .stands) .allowed) (late-there .within) (late-there .allowed) q in
-                unfold stored-at stored in
-                recorded-there (object-number c) p b os (some-else (unpack b) [] u) (there .1) new (f .allowed) (f .number) (f .maximum)
+          by : (m : Option Object) → operation a c (session-object (n .0) k byte) see .stores ≡ m → m ≡ none
+          by none q = refl
+          by (some new) q =
+              let l = session-late (length room) h n k byte e in
+              absurd (false≢true (sym (operation-outside a c (session-object (n .0) k byte) see new (l .granted) q) ∙ of))
+
+      pub session-done : (n : ObjectNumber) (k : Kind) (byte : ℕ) (r : Session) → aim ≡ InSession n k byte → r ≡ session-does a c (n .0) byte s .session →
+          xs ≡ put-in-front (done-response (session-does a c (n .0) byte s .answer)) room →
+          executed (record { outcome = 0; session = r }) xs b ≡ performed (ruling-on a c (target-object aim b) (seen-in b s) .does) room os
+      unfolding performed target-object ruling-on
+      session-done n k byte r e er ex =
+          let alike = session-alike a c (n .0) byte (length room) k os s (session-may (length room) h n k byte e) in
+          let stores = nothing-stored n k byte e in
+          rw e
+          (λ i. record {
+            outcome = 0;
+            room = (ex ∙ ap (λ x. put-in-front (done-response x) room) (alike .1)) i;
+            store = (packed ∙ ap (λ m. pack (replacing m os)) (sym stores)) i;
+            session = (er ∙ alike .0) i;
+          })
+
+      pub record-done : (p : ℕ) (b′ : List ℕ) → aim ≡ InStore p → b′ ≡ stored-at p (record-does a c (object-at p b) .stores) b →
+          xs ≡ put-in-front (done-response (record-does a c (object-at p b) .answer)) room →
+          executed (record { outcome = 0; session = s }) xs b′ ≡ performed (ruling-on a c (target-object aim b) (seen-in b s) .does) room os
+      unfolding performed target-object ruling-on seen stored-at replacing
+      record-done p b′ e eb ex =
+          rw e
+          (λ i. record {
+            outcome = 0;
+            room = (ex ∙ ap (λ x. put-in-front (done-response x) room) (alike .answer)) i;
+            store = (eb ∙ ap (λ m. stored-at p m b) (alike .stores) ∙ same-store o-stores refl) i;
+            session = sym (session-left a c (object-at p b) see outside) i;
+          })
+        where
+          there : Stored p b × (found (object-number c) os ≡ found-at.At p)
+          there = rw e at t
+
+          ok : object-allowed (object-at p b) ≡ true
+          ok = standing p b (there .0 .stands) .allowed
+
+          outside : in-session (object-at p b .number) ≡ false
+          outside = allowed (object-at p b) ok .outside-session
+
+          alike : Alike (record-does a c (object-at p b)) (operation a c (object-at p b) see)
+          alike = operation-alike a c (object-at p b) (seen [] fresh-session) see
+
+          o-stores : Option Object
+          o-stores = operation a c (object-at p b) see .stores
+
+          same-store : (m : Option Object) → operation a c (object-at p b) see .stores ≡ m → stored-at p m b ≡ pack (replacing m os)
+          same-store none q = packed
+          same-store (some new) q =
+              let f = operation-fitting a c (object-at p b) see new ok (record-late (length room) h p e .own) q in
+              recorded-there (object-number c) p b os unpacked (there .1) new (f .allowed) (f .number) (f .maximum)
 
 -- `on_object`: the verdict of the steps 9 to 13 decides -----------------------------------------------------------------------------
 
 module _ (c b room : List ℕ) (s : Session) (a : early (is-some (unpack b)) c s ≡ Accepted) where
-  judged-by : (v : Verdict) → v ≡ from-nine c (length room) (named c (or-else (unpack b) []) s) s →
-      answered v c room b (or-else (unpack b) []) s ≡ judged c room b (unpack b) s
-  unfolding judged verdict _and-then_
+  pub accepted-sound : is-some (unpack b) ≡ true
+  accepted-sound = in-form (is-some (unpack b)) c s a .well-formed
+
+  judged-by : (v : Verdict) → v ≡ late (ruling (row c) c (seen-in b s)) (length room) →
+      answered v (ruling (row c) c (seen-in b s) .does) room b (or-else (unpack b) []) s ≡ judged c room b (unpack b) s
+  unfolding judged verdict _and-then_ seen
   judged-by v e = rw (a, e)
 
-  pub refused-late : (v : Verdict) (k : Refusal) (r : Answer) (xs : List ℕ) → v ≡ from-nine c (length room) (named c (or-else (unpack b) []) s) s → v ≡ Refused k →
-      r .outcome ≡ 0 → r .session ≡ raised (code k) s → xs ≡ put-in-front refused-response room → executed r xs b ≡ judged c room b (unpack b) s
-  unfolding answered declined
-  refused-late v k r xs e q eo es ex =
-      (λ i. record { outcome = eo i; room = ex i; store = b; session = es i }) ∙ judged-by (Refused k) (sym q ∙ e)
+  -- at the object that is named
+  module _ (w : Action) (acts : row c ≡ OnObject w) (aim : Target) (ea : target-object aim b ≡ named (object-number c) (seen-in b s)) where
+    ruling-is : ruling-on w c (target-object aim b) (seen-in b s) ≡ ruling (row c) c (seen-in b s)
+    unfolding ruling
+    ruling-is = rw (acts, ea)
 
-  pub accepted-late : (v : Verdict) (r : Session) (xs b′ : List ℕ) → v ≡ from-nine c (length room) (named c (or-else (unpack b) []) s) s → v ≡ Accepted →
-      executed (record { outcome = 0; session = r }) xs b′ ≡ performed (requested c (named c (or-else (unpack b) []) s) s) room b (or-else (unpack b) []) →
-      executed (record { outcome = 0; session = r }) xs b′ ≡ judged c room b (unpack b) s
-  unfolding answered
-  accepted-late v r xs b′ e q f = f ∙ judged-by Accepted (sym q ∙ e)
+    pub refused-late : (v : Verdict) (k : Refusal) (r : Answer) (xs : List ℕ) → v ≡ late (ruling-on w c (target-object aim b) (seen-in b s)) (length room) →
+        v ≡ Refused k → r .outcome ≡ 0 → r .session ≡ raised (code k) s → xs ≡ put-in-front refused-response room → executed r xs b ≡ judged c room b (unpack b) s
+    unfolding answered declined
+    refused-late v k r xs e q eo es ex =
+        (λ i. record { outcome = eo i; room = ex i; store = b; session = es i }) ∙
+        judged-by (Refused k) (sym q ∙ e ∙ ap (λ x. late x (length room)) ruling-is)
 
-  -- `carry_out`: open and close
-  module _ (w : Row) (ew : w ≡ row c) (n : gets-or-sets w ≡ false) (four : 4 ≤ length room) where
-    form : InForm (is-some (unpack b)) c s
-    form = in-form (is-some (unpack b)) c s a
+    pub accepted-late : (v : Verdict) (r : Session) (xs b′ : List ℕ) → v ≡ late (ruling-on w c (target-object aim b) (seen-in b s)) (length room) →
+        v ≡ Accepted →
+        executed (record { outcome = 0; session = r }) xs b′ ≡ performed (ruling-on w c (target-object aim b) (seen-in b s) .does) room (or-else (unpack b) []) →
+        executed (record { outcome = 0; session = r }) xs b′ ≡ judged c room b (unpack b) s
+    unfolding answered
+    accepted-late v r xs b′ e q f =
+        f ∙ ap (λ (x : Ruling). performed (x .does) room (or-else (unpack b) [])) ruling-is ∙
+        judged-by Accepted (sym q ∙ e ∙ ap (λ x. late x (length room)) ruling-is)
 
-    asked : (o : Object) → operation w c o s ≡ setting-session (with-opened (opens w) s)
-    asked o = go w refl n
+  -- `carry_out`: a row that names no object
+  module _ (four : 4 ≤ length room) (w : Row) (ew : w ≡ row c) where
+    session-set : (s′ : Session) → ruling (row c) c (seen-in b s) ≡ ruling-of s′ → (r : Answer) (xs : List ℕ) →
+        r .outcome ≡ 0 → r .session ≡ s′ → xs ≡ put-in-front (done-response []) room → executed r xs b ≡ judged c room b (unpack b) s
+    session-set s′ e r xs eo es ex =
+        stands ∙ ap (λ (x : Ruling). performed (x .does) room os′) (sym e) ∙ (unfold answered in judged-by Accepted (accepts ∙ ap (λ x. late x (length room)) (sym e)))
       where
-        go : (v : Row) → w ≡ v → gets-or-sets v ≡ false → operation v c o s ≡ setting-session (with-opened (opens v) s)
-        go GetData q n = absurd (unfold gets-or-sets in false≢true (sym n))
-        go GetMetadata q n = absurd (unfold gets-or-sets in false≢true (sym n))
-        go Write q n = absurd (unfold gets-or-sets in false≢true (sym n))
-        go EraseAndWrite q n = absurd (unfold gets-or-sets in false≢true (sym n))
-        go SetMetadata q n = absurd (unfold gets-or-sets in false≢true (sym n))
-        go OpenApplication q n = unfold operation opens in refl
-        go CloseApplication q n = unfold operation opens in refl
-        go Unknown q n = absurd (no-unknown-row (is-some (unpack b)) c s w ew form q)
+        os′ : List Object
+        os′ = or-else (unpack b) []
 
-    requested-is : requested c (named c (or-else (unpack b) []) s) s ≡ setting-session (with-opened (opens w) s)
-    unfolding requested
-    requested-is = ap (λ v. operation v c (or-else (named c (or-else (unpack b) []) s) no-object) s) (sym ew) ∙ asked (or-else (named c (or-else (unpack b) []) s) no-object)
+        accepts : Accepted ≡ late (ruling-of s′) (length room)
+        accepts = unfold late ruling-of setting-session _and-then_ in sym (fitting-accepts 0 (length room) four)
 
-    nine-accepts : Accepted ≡ from-nine c (length room) (named c (or-else (unpack b) []) s) s
-    unfolding from-nine no-such-object _refused_or_ late-of late setting-session
-    nine-accepts = rw (names-none (is-some (unpack b)) c s w w ew form refl n, requested-is, le-ltb (length room) 4 four)
+        stands : executed r xs b ≡ performed (ruling-of s′ .does) room os′
+        stands =
+            unfold performed ruling-of setting-session replacing in
+            (λ i. record { outcome = eo i; room = ex i; store = sym (pack-unpack b os′ (some-else (unpack b) [] accepted-sound) .0) i; session = es i })
 
-    application-set : (r : Session) (xs : List ℕ) → r ≡ with-opened (opens w) s → xs ≡ put-in-front (done-response []) room →
-        executed (record { outcome = 0; session = r }) xs b ≡ judged c room b (unpack b) s
-    unfolding performed stored setting-session
-    application-set r xs er ex =
-        accepted-late Accepted r xs b nine-accepts refl (rw requested-is (λ i. record { outcome = 0; room = ex i; store = b; session = er i }))
+    pub opened-set : (r : Answer) (xs : List ℕ) (s′ : Session) → w ≡ OpenApplication → s′ ≡ with-opened true s → r .outcome ≡ 0 → r .session ≡ s′ →
+        xs ≡ put-in-front (done-response []) room → executed r xs b ≡ judged c room b (unpack b) s
+    unfolding ruling seen
+    opened-set r xs s′ e q eo es ex = session-set (with-opened true s) (rw (← ew, e)) r xs eo (es ∙ q) ex
 
-  pub application-by : (w : Row) (q t : Bool) (r : Session) (xs : List ℕ) → w ≡ row c → 4 ≤ length room → q ≡ gets-or-sets w → q ≡ false → t ≡ opens w →
-      r ≡ with-opened t s → xs ≡ put-in-front (done-response []) room → executed (record { outcome = 0; session = r }) xs b ≡ judged c room b (unpack b) s
-  application-by w q t r xs ew four eq n et er ex = application-set w ew (sym eq ∙ n) four r xs (er ∙ ap (λ y. with-opened y s) et) ex
+    pub closed-set : (r : Answer) (xs : List ℕ) (s′ : Session) → w ≡ CloseApplication → s′ ≡ with-opened false s → r .outcome ≡ 0 → r .session ≡ s′ →
+        xs ≡ put-in-front (done-response []) room → executed r xs b ≡ judged c room b (unpack b) s
+    unfolding ruling seen
+    closed-set r xs s′ e q eo es ex = session-set (with-opened false s) (rw (← ew, e)) r xs eo (es ∙ q) ex
 
-  -- what `on_object` asks
-  sound : is-some (unpack b) ≡ true
-  sound = in-form (is-some (unpack b)) c s a .well-formed
+    pub unknown-set : (r : Answer) (xs : List ℕ) → w ≡ Unknown → r .outcome ≡ 0 → r .session ≡ s →
+        xs ≡ put-in-front (done-response []) room → executed r xs b ≡ judged c room b (unpack b) s
+    unfolding ruling seen
+    unknown-set r xs e eo es ex = session-set s (rw (← ew, e)) r xs eo es ex
 
-  pub accepted-sound : is-some (unpack b) ≡ true
-  accepted-sound = sound
+  pub acts-on : (w : Row) (v : Action) → w ≡ row c → w ≡ OnObject v → row c ≡ OnObject v
+  acts-on w v ew e = sym ew ∙ e
 
-  pub accepted-form : InForm true c s
-  accepted-form = rw sound at (in-form (is-some (unpack b)) c s a)
+  pub in-full : (w : Action) → row c ≡ OnObject w → InFull w c
+  in-full w acts = action-in-full (is-some (unpack b)) c s w a acts
 
-  pub accepted-early : early true c s ≡ Accepted
-  accepted-early = rw sound at a
-
-pub early-there : (b c : List ℕ) (s : Session) → is-some (unpack b) ≡ true → early true c s ≡ Accepted → early (is-some (unpack b)) c s ≡ Accepted
-early-there b c s u a = rw u a
+  pub object-there : (w : Action) → row c ≡ OnObject w → 6 ≤ length c
+  object-there w acts = object-long w c (in-full w acts)
 
 -- `execute` ---------------------------------------------------------------------------------------------------------------------------
 
@@ -208,7 +293,7 @@ module _ (c room b : List ℕ) (s : Session) where
       early-refused k r xs q eo es ex = step-by r xs b ((λ i. record { outcome = eo i; room = ex i; store = b; session = es i }) ∙ is-declined)
         where
           is-declined : declined k room b f ≡ judged c room b (unpack b) f
-          is-declined = unfold judged verdict answered _and-then_ in rw (← et, ← ev, q)
+          is-declined = unfold judged verdict answered _and-then_ seen in rw (← et, ← ev, q)
 
   pub early-passes : (f : Session) (t : Bool) (v : Verdict) → t ≡ is-some (unpack b) → v ≡ early t c f → v ≡ Accepted → early (is-some (unpack b)) c f ≡ Accepted
   early-passes f t v et ev q = ap (λ x. early x c f) (sym et) ∙ sym ev ∙ q

@@ -8,7 +8,7 @@ use native.Mathlib.Omega.{arith}
 use lib.Dec.{eqb, leb}
 use lib.ListN.{length, getD, drop, length-drop}
 use Rattle.rules.specs.Basic.{all, is-some}
-use Rattle.rules.specs.Expression.{Condition, Group, just, _and_, Groups, only, _or_, Expression, always, never, when}
+use Rattle.rules.specs.Expression.{slot-size, Condition, Group, just, _and_, Groups, only, _or_, Expression, always, never, when, expression-allowed-with}
 use Rattle.rules.specs.Expression.{condition-bytes, group-bytes, groups-bytes, expression-bytes, in-first, expression}
 use Rattle.rules.specs.Expression.{condition-allowed, group-allowed, groups-allowed, expression-allowed}
 use Rattle.rules.specs.Expression.{conditions, groups, most-conditions, most-groups}
@@ -149,26 +149,26 @@ fits-groups g (x or gs) l h =
 
 -- what an expression of its length can be
 when-fits : (s : List ℕ) (e : Expression) → expression-bytes e ≡ s → expression-allowed e ≡ true → (length s ≡ 1 → ⊥) → fits most-groups s ≡ true
-unfolding expression-bytes expression-allowed
+unfolding expression-bytes expression-allowed-with
 when-fits s always b h n = absurd (n (ap length (sym b)))
 when-fits s never b h n = absurd (n (ap length (sym b)))
 when-fits s (when gs) b h n = rw b at (fits-groups most-groups gs (leb-true (groups gs) most-groups (at-place _ h 2)) (at-place _ h 0))
 
-fits-when : (s : List ℕ) → Joined most-groups s → length s ≤ 4 * most-conditions - 1 → is-some (expression s) ≡ true
-unfolding expression-bytes expression-allowed all
+fits-when : (s : List ℕ) → Joined most-groups s → length s ≤ slot-size - 1 → is-some (expression s) ≡ true
+unfolding expression-bytes expression-allowed-with all
 fits-when s r l =
     let e = when (r .gs) in
-    let n : conditions (r .gs) ≤ most-conditions = omega (arith, groups-length (r .gs), ap length (r .bytes)) in
-    let h : expression-allowed e ≡ true = rw (r .allowed, le-leb (conditions (r .gs)) most-conditions n, le-leb (groups (r .gs)) most-groups (r .few)) in
+    let n : conditions (r .gs) ≤ (most-conditions slot-size) = omega (arith, groups-length (r .gs), ap length (r .bytes)) in
+    let h : expression-allowed e ≡ true = rw (r .allowed, le-leb (conditions (r .gs)) (most-conditions slot-size) n, le-leb (groups (r .gs)) most-groups (r .few)) in
     some-is (expression s) e (ap expression (sym (r .bytes)) ∙ expression-back e h)
 
-pub well-formed-joined : (s : List ℕ) → (length s ≡ 1 → ⊥) → length s ≤ 4 * most-conditions - 1 → is-some (expression s) ≡ fits most-groups s
+pub well-formed-joined : (s : List ℕ) → (length s ≡ 1 → ⊥) → length s ≤ slot-size - 1 → is-some (expression s) ≡ fits most-groups s
 well-formed-joined s n l =
     same-test (is-some (expression s)) (fits most-groups s)
     (λ h. let (e, q) = some-of (expression s) h in let (b, a) = expression-read s e q in when-fits s e b a n)
     (λ h. fits-when s (fits-joined most-groups s (omega arith) h) l)
 
-pub well-formed-long : (s : List ℕ) → 4 * most-conditions - 1 < length s → false ≡ is-some (expression s)
+pub well-formed-long : (s : List ℕ) → slot-size - 1 < length s → false ≡ is-some (expression s)
 well-formed-long s l =
     same-test false (is-some (expression s)) (λ h. absurd (false≢true h))
     (λ h. let (e, q) = some-of (expression s) h in
@@ -188,9 +188,9 @@ one-byte x (when gs) b = absurd (omega (arith, groups-length gs, ap length b))
 
 byte-one : (x : ℕ) → (t u : Bool) → eqb x 0x00 ≡ t → eqb x 0xFF ≡ u → (t || u) ≡ true → is-some (expression (x ∷ [])) ≡ true
 byte-one x true u e f h =
-    rw (eqb-true x 0x00 e) (some-is (expression (0x00 ∷ [])) always (unfold expression-allowed expression-bytes in expression-back always refl))
+    rw (eqb-true x 0x00 e) (some-is (expression (0x00 ∷ [])) always (unfold expression-allowed-with expression-bytes in expression-back always refl))
 byte-one x false true e f h =
-    rw (eqb-true x 0xFF f) (some-is (expression (0xFF ∷ [])) never (unfold expression-allowed expression-bytes in expression-back never refl))
+    rw (eqb-true x 0xFF f) (some-is (expression (0xFF ∷ [])) never (unfold expression-allowed-with expression-bytes in expression-back never refl))
 byte-one x false false e f h = absurd (false≢true h)
 
 pub single-by : (r : Bool) (x : ℕ) → r ≡ (eqb x 0x00 || eqb x 0xFF) → r ≡ is-some (expression (x ∷ []))

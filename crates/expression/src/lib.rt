@@ -1,12 +1,10 @@
-// Life cycle states and access expressions in their bytes.
-use rules::Session;
+// Life cycle states and the form of access expressions in their bytes.
 ghost use mathlib.Core.Path.{_≡_};
-ghost use mathlib.Core.Bool.{true};
 ghost use mathlib.Core.List.{[], _∷_};
 ghost use Prim.Native.Nat.{_+_, _≤_, _<_};
 ghost use lib.ListN.{length};
 ghost use Rattle.rules.specs.Basic.{among, is-some};
-ghost use Rattle.rules.specs.Expression.{is-state, may-become, expression, condition-allowed, present, condition-holds, holds, read-expression};
+ghost use Rattle.rules.specs.Expression.{is-state, may-become, expression, condition-allowed};
 ghost use Rattle.expression.specs.Conditions.{condition-at, groups-after};
 
 // Limits of an expression: conditions, groups, bytes. A condition is three bytes; one byte joins two.
@@ -14,8 +12,9 @@ const CONDITIONS: usize = 7;
 
 const GROUPS: usize = 3;
 
-const LONGEST: usize = 4 * CONDITIONS - 1;
+pub const LONGEST: usize = 4 * CONDITIONS - 1;
 
+// Whether the byte is a life cycle state.
 pub fn is_state(b: u8) -> bool
     ensures { λ r. ⌜ r ≡ is-state b ⌝ }
 {
@@ -35,6 +34,7 @@ pub fn may_become(present: u8, next: u8) -> bool
     present <= next
 }
 
+// Whether the byte is one of three.
 fn is_one_of(b: u8, x: u8, y: u8, z: u8) -> bool
     ensures { λ r. ⌜ r ≡ among (x ∷ y ∷ z ∷ []) b ⌝ }
 {
@@ -47,7 +47,7 @@ fn is_one_of(b: u8, x: u8, y: u8, z: u8) -> bool
     b == z
 }
 
-// Of the three bytes at `at`.
+// Whether the condition of the three bytes at `at` is well formed.
 pub fn condition_allowed(part: &[u8], at: usize) -> bool
     requires { ⌜ at + 2 < length (now part) ⌝ }
     ensures { λ r. ⌜ r ≡ condition-allowed (condition-at at (now (part .entry))) ⌝ }
@@ -75,11 +75,11 @@ fn groups_after(joint: u8, groups: usize) -> usize
     0
 }
 
-// Of a single byte: always or never.
+// Whether one byte is an expression: always or never.
 pub fn single(b: u8) -> bool
     ensures { λ r. ⌜ r ≡ is-some (expression (b ∷ [])) ⌝ }
 {
-    primitives::either(b == 0x00, b == 0xFF)
+    primitives::or(b == 0x00, b == 0xFF)
 }
 
 // Whether these bytes are an access expression.
@@ -108,57 +108,4 @@ pub fn well_formed(part: &[u8]) -> bool
         return false;
     }
     condition_allowed(part, at)
-}
-
-// The state that a condition speaks of.
-fn state_of(session: Session, lcso: u8, subject: u8) -> u8
-    ensures { λ r. ⌜ r ≡ present session lcso subject ⌝ }
-{
-    if subject == 0x70 {
-        return session.lcsg;
-    }
-    if subject == 0xE0 {
-        return session.lcsa;
-    }
-    lcso
-}
-
-// Of the three bytes at `at`.
-fn condition_holds(part: &[u8], at: usize, session: Session, lcso: u8) -> bool
-    requires { ⌜ at + 2 < length (now part) ⌝ }
-    ensures { λ r. ⌜ r ≡ condition-holds session lcso (condition-at at (now (part .entry))) ⌝ }
-{
-    let state = state_of(session, lcso, part[at]);
-    let relation = part[at + 1];
-    let reference = part[at + 2];
-    if relation == 0xFA {
-        return state == reference;
-    }
-    if relation == 0xFB {
-        return reference < state;
-    }
-    state < reference
-}
-
-// Whether the expression of these bytes holds: FE ends a group, so and binds first.
-pub fn holds(part: &[u8], session: Session, lcso: u8) -> bool
-    requires { ⌜ is-some (expression (now part)) ≡ true ⌝ }
-    ensures { λ r. ⌜ r ≡ holds session lcso (read-expression (now (part .entry))) ⌝ }
-{
-    if part.len() == 1 {
-        let b = part[0];
-        return b == 0x00;
-    }
-    let mut at: usize = 0;
-    let mut before = true;
-    while at + 3 < part.len() {
-        let held = primitives::both(before, condition_holds(part, at, session, lcso));
-        let ends = part[at + 3] == 0xFE;
-        if primitives::both(ends, held) {
-            return true;
-        }
-        before = primitives::either(ends, held);
-        at += 4;
-    }
-    primitives::both(before, condition_holds(part, at, session, lcso))
 }

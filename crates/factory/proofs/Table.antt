@@ -6,7 +6,7 @@ use native.Mathlib.Omega.{arith}
 use native.Mathlib.Nat.{not-suc-le-zero, le-of-suc-le-suc}
 use native.Mathlib.Numerals.{add-one}
 use lib.ListN.{length, getD, take}
-use Rattle.rules.specs.Layout.{head-size, size, record-bytes, pack}
+use Rattle.rules.specs.Layout.{head-size, size, record-bytes, pack, pack-with, size-with}
 use Rattle.rules.specs.Factory.{Entry, entry, table, made, factory-objects}
 use Rattle.factory.specs.declared.Entry as code
 use Rattle.factory.specs.Table.{entries, all-bytes, entry-at, first, place, Listed}
@@ -15,13 +15,13 @@ use Rattle.factory.specs.Table.{entries, all-bytes, entry-at, first, pla
 
 size-next : (es : List Entry) (i : ℕ) (d : Entry) → i < length es →
     size (map made (take (suc i) es)) ≡ size (map made (take i es)) + (head-size + getD es i d .maximum)
-unfolding size made
+unfolding size-with made
 size-next [] i d h = absurd (not-suc-le-zero h)
 size-next (e ∷ es) zero d h = omega arith
 size-next (e ∷ es) (suc i) d h = omega (arith, size-next es i d (le-of-suc-le-suc h))
 
 size-within : (es : List Entry) (i : ℕ) → size (map made (take i es)) ≤ size (map made es)
-unfolding size
+unfolding size-with
 size-within [] zero = omega arith
 size-within [] (suc i) = omega arith
 size-within (e ∷ es) zero = omega arith
@@ -29,7 +29,7 @@ size-within (e ∷ es) (suc i) = omega (arith, size-within es i)
 
 pub pack-next : (es : List Entry) (i : ℕ) (d : Entry) → i < length es →
     pack (map made (take (suc i) es)) ≡ pack (map made (take i es)) ++ record-bytes (made (getD es i d))
-unfolding pack
+unfolding pack-with
 pack-next [] i d h = absurd (not-suc-le-zero h)
 pack-next (e ∷ es) zero d h = append-nil (record-bytes (made e))
 pack-next (e ∷ es) (suc i) d h =
@@ -39,7 +39,7 @@ pack-next (e ∷ es) (suc i) d h =
 -- the rules' table ----------------------------------------------------------------------------------------------------------
 
 pub total-is : size factory-objects ≡ all-bytes
-unfolding size factory-objects table made entry
+unfolding size-with factory-objects table made entry
 total-is = refl
 
 place-within : (i : ℕ) → place i ≤ all-bytes
@@ -74,7 +74,7 @@ listed i h =
 -- the loops -----------------------------------------------------------------------------------------------------------------
 
 pub place-start : 0 ≡ place 0
-unfolding place first size
+unfolding place first size-with
 place-start = refl
 
 pub place-end : (n i : ℕ) → n ≡ place i → i ≤ entries → entries ≤ i → n ≡ all-bytes

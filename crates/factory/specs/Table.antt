@@ -1,10 +1,10 @@
 -- The rules' table by its index: each entry, and where its record begins.
-use Prim.Native.Nat.{ℕ, _+_, _/_, _%_, _≤_}
-use mathlib.Core.List.{List, [], _∷_, map}
+use Prim.Native.Nat.{ℕ, _+_, _≤_}
+use mathlib.Core.List.{List, map}
 use mathlib.Core.Path.{_≡_}
 use lib.ListN.{getD, take}
 use Rattle.rules.specs.Object.{Object}
-use Rattle.rules.specs.Layout.{head-size, data-kind, size}
+use Rattle.rules.specs.Layout.{head-size, size}
 use Rattle.rules.specs.Factory.{Entry, entry, table, made}
 
 -- how many entries there are, and how many bytes their records take
@@ -29,7 +29,3 @@ pub record Listed (i n m : ℕ) : Type 0 where
   pub same : entry n m ≡ entry-at i
   pub next : place (i + 1) ≡ place i + (head-size + m)
   pub within : place (i + 1) ≤ all-bytes
-
--- the first 12 bytes of a factory record: length of the record, kind, object, maximum, used 0, LcsO 01, zero
-unfoldable pub fixed-part : ℕ → ℕ → List ℕ
-fixed-part n m = (head-size + m) % 256 ∷ (head-size + m) / 256 ∷ data-kind ∷ 0 ∷ n % 256 ∷ n / 256 ∷ m % 256 ∷ m / 256 ∷ 0 ∷ 0 ∷ 1 ∷ 0 ∷ []

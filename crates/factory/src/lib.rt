@@ -8,8 +8,10 @@ ghost use lib.ListN.{length};
 ghost use Rattle.rules.specs.Layout.{head-size, record-bytes};
 ghost use Rattle.rules.specs.Factory.{entry, made, factory-store};
 ghost use Rattle.rules.specs.Factory.{fresh-session, factory-outcome, factory-made};
-ghost use Rattle.primitives.specs.Bytes.{over};
-ghost use Rattle.factory.specs.Table.{entries, all-bytes, Listed, fixed-part};
+ghost use Rattle.factory.specs.Table.{entries, all-bytes, Listed};
+
+// The bytes of the factory store.
+pub const STORE: usize = 6024;
 
 // An object's number and the size of its data.
 struct Entry(ObjectNumber, Length);
@@ -33,17 +35,7 @@ const TABLE: [Entry; ENTRIES] = [
     Entry(ObjectNumber(0xF1E1), Length(1500)),
 ];
 
-const SLOT_SIZE: usize = 28;
-
-// How far into a record its slots and its data begin.
-const CHANGE: usize = 12;
-
-const READ: usize = CHANGE + SLOT_SIZE;
-
-const EXECUTE: usize = READ + SLOT_SIZE;
-
-const DATA: usize = EXECUTE + SLOT_SIZE;
-
+// The entry of the table at an index.
 fn entry_at(i: usize) -> Entry
     requires { ⌜ i < entries ⌝ }
     ensures { λ r. ⌜ Listed i (r .0 .0) (r .1 .0) ⌝ }
@@ -51,57 +43,18 @@ fn entry_at(i: usize) -> Entry
     TABLE[i]
 }
 
-// The bytes that the records of the table take.
-fn total() -> usize
-    ensures { λ r. ⌜ r ≡ all-bytes ⌝ }
-{
-    let mut sum: usize = 0;
-    let mut i: usize = 0;
-    while i < ENTRIES {
-        let entry = entry_at(i);
-        sum += DATA + entry.1.0;
-        i += 1;
-    }
-    sum
-}
-
-// The first 12 bytes of a record: none of the data is used, LcsO is 01.
-fn put_fixed(part: &mut [u8], number: ObjectNumber, maximum: Length)
-    requires { ⌜ (head-size ≤ length (now part)) × (head-size + maximum .0 < 65536) ⌝ }
-    ensures { λ _. ⌜ now (part .exit) ≡ over 0 (fixed-part (number .0) (maximum .0)) (now (part .entry)) ⌝ }
-{
-    let n = number.0;
-    let m = maximum.0;
-    let l = DATA + m;
-    let bytes = [
-        (l % 256) as u8,
-        (l / 256) as u8,
-        1,
-        0,
-        (n % 256) as u8,
-        (n / 256) as u8,
-        (m % 256) as u8,
-        (m / 256) as u8,
-        0,
-        0,
-        1,
-        0,
-    ];
-    primitives::put(part, 0, &bytes);
-}
-
-// A record: zeros, but for its first bytes and the front of each slot, which is a length and an expression.
+// A record: its head, then zeros.
 fn put_record(part: &mut [u8], number: ObjectNumber, maximum: Length)
     requires { ⌜ (length (now part) ≡ head-size + maximum .0) × (head-size + maximum .0 < 65536) ⌝ }
     ensures { λ _. ⌜ now (part .exit) ≡ record-bytes (made (entry (number .0) (maximum .0))) ⌝ }
 {
-    let before_operational = [3, 0xE1, 0xFC, 0x07];
-    let always = [1, 0x00];
+    let before_operational = [0xE1, 0xFC, 0x07];
+    let always = [0x00];
     primitives::clear(part);
-    put_fixed(part, number, maximum);
-    primitives::put(part, CHANGE, &before_operational);
-    primitives::put(part, READ, &always);
-    primitives::put(part, EXECUTE, &always);
+    record::put_fixed(part, number, maximum);
+    record::put_slot(part, record::CHANGE, &before_operational);
+    record::put_slot(part, record::READ, &always);
+    record::put_slot(part, record::EXECUTE, &always);
 }
 
 // The table's records, end to end: the part of each is lent on.
@@ -115,24 +68,25 @@ fn fill(store: &mut [u8])
         let entry = entry_at(i);
         let number = entry.0;
         let maximum = entry.1;
-        let e = at + DATA + maximum.0;
+        let e = at + record::DATA + maximum.0;
         put_record(&mut store[at..e], number, maximum);
         at = e;
         i += 1;
     }
 }
 
-// Outcome 0 and the factory store in a buffer of the table's size, else outcome 2 and the buffer as it was.
+// Outcome 0 and the factory store in a buffer of its size, else outcome 2 and the buffer as it was.
 pub fn make_factory_store(store: &mut [u8]) -> u8
     ensures { λ r. ⌜ (r ≡ factory-outcome (now (store .entry))) × (now (store .exit) ≡ factory-made (now (store .entry))) ⌝ }
 {
-    if store.len() != total() {
+    if store.len() != STORE {
         return 2;
     }
     fill(store);
     0
 }
 
+// The session that a fresh element has.
 pub fn fresh_session() -> Session
     ensures { λ r. ⌜ r ≡ fresh-session ⌝ }
 {

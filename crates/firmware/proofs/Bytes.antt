@@ -40,8 +40,7 @@ made-fresh was b s e f = f ∙ ap (bytes-of was) e
 -- `execute_for_host`
 pub answered : (was b : HostSession) (s : Session) (r : Answer) (command room store room′ store′ : List ℕ) → s ≡ session-of was → b ≡ bytes-of was (r .session)
     → Executes command room store s r room′ store′ → HostExecutes command room store was (left (r .outcome) room′ store′ b)
-answered was b s r command room store room′ store′ e f g =
-    rw f (ap (in-bytes was) (g ∙ ap (step command room store) e))
+answered was b s r command room store room′ store′ e f g = rw f (ap (in-bytes was) (g ∙ ap (step command room store) e))
 
 told-open : (b : ℕ) (o : Bool) → not (eqb (opened-byte b o) 0) ≡ o
 unfolding opened-byte

@@ -10,11 +10,11 @@ use Rattle.element.specs.Executed.{Executes}
 use Rattle.runs.specs.Lists.{Lent, Returned, returned, by-rules}
 use Rattle.runs.specs.Demand.{IsRun, library-run}
 use Rattle.firmware.specs.declared.HostSession.{HostSession}
-use Rattle.firmware.specs.Host.{session-of, Left, left, HostExecutes}
+use Rattle.firmware.specs.Host.{session-of, HostAfter, left, HostExecutes}
 use Rattle.firmware.specs.Lists.{ListLeft, laid-well, list-left, list-in-bytes, HostRuns}
 use Rattle.firmware.proofs.Bytes.{told-again}
 
-abbrev after : Left → After
+abbrev after : HostAfter → After
 after l = record { outcome = l .outcome; room = l .room; store = l .store; session = session-of (l .session) }
 
 -- a call of `element_execute` meets the contract of `execute`

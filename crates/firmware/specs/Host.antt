@@ -22,19 +22,19 @@ unfoldable pub bytes-of : HostSession → Session → HostSession
 bytes-of was s = record { opened = opened-byte (was .opened) (s .opened); lcsg = s .lcsg; lcsa = s .lcsa; error = s .error }
 
 -- what a call leaves
-pub record Left : Type 0 where
+pub record HostAfter : Type 0 where
   pub outcome : ℕ
   pub room : List ℕ
   pub store : List ℕ
   pub session : HostSession
 
-abbrev pub left : ℕ → List ℕ → List ℕ → HostSession → Left
+abbrev pub left : ℕ → List ℕ → List ℕ → HostSession → HostAfter
 left outcome room store session = record { outcome = outcome; room = room; store = store; session = session }
 
 -- what stands after a command by the rules, with the session in bytes
-abbrev pub in-bytes : HostSession → After → Left
+abbrev pub in-bytes : HostSession → After → HostAfter
 in-bytes was a = left (a .outcome) (a .room) (a .store) (bytes-of was (a .session))
 
 -- what a call of `element_execute` leaves, by the rules
-abbrev pub HostExecutes : (c room store : List ℕ) (was : HostSession) → Left → Type 0
+abbrev pub HostExecutes : (c room store : List ℕ) (was : HostSession) → HostAfter → Type 0
 HostExecutes c room store was l = l ≡ in-bytes was (step c room store (session-of was))

@@ -6,9 +6,11 @@ use mathlib.Core.Path.{_≡_}
 use lib.Dec.{ltb, leb}
 use lib.ListN.{length, getD, drop}
 use Rattle.rules.specs.Basic.{if_then_else_}
-use Rattle.runs.specs.Lists.{Lent, by-rules}
+use denote.Ref.{now}
+use Rattle.runs.specs.Lists.{Lent, by-rules, lent}
+use Rattle.runs.specs.Demand.{Slice}
 use Rattle.firmware.specs.declared.HostSession.{HostSession}
-use Rattle.firmware.specs.Host.{bytes-of}
+use Rattle.firmware.specs.Host.{session-of, bytes-of}
 
 -- n sizes are there, and each is no more than those before it leave of the total
 unfoldable pub all-fit : ℕ → List ℕ → ℕ → Bool
@@ -40,3 +42,11 @@ list-in-bytes was l =
 -- what a call of `element_run` leaves, by the rules; l has the session that the bytes tell
 abbrev pub HostRuns : (l : Lent) (was : HostSession) → ListLeft → Type 0
 HostRuns l was r = r ≡ list-in-bytes was l
+
+-- the same, by the parameters of the call and what it answers
+abbrev pub HostRun : (commands sizes store : Slice) → HostSession → (rooms spaces outcomes : Slice) → ℕ → HostSession → Type 0
+HostRun commands sizes store was rooms spaces outcomes outcome session =
+    HostRuns
+    (lent (now (commands .entry)) (now (sizes .entry)) (now (rooms .entry)) (now (spaces .entry)) (now (outcomes .entry)) (now (store .entry)) (session-of was))
+    was
+    (list-left outcome (now (rooms .exit)) (now (outcomes .exit)) (now (store .exit)) session)

@@ -4,9 +4,8 @@ ghost use mathlib.Core.Path.{_≡_};
 ghost use Rattle.rules.specs.Basic.{is-some};
 ghost use Rattle.rules.specs.Layout.{unpack};
 ghost use Rattle.rules.specs.Factory.{fresh-session, factory-outcome, factory-made};
-ghost use Rattle.runs.specs.Lists.{lent};
 ghost use Rattle.firmware.specs.Host.{session-of, opened-byte, bytes-of, left, HostExecutes};
-ghost use Rattle.firmware.specs.Lists.{all-fit, list-left, HostRuns};
+ghost use Rattle.firmware.specs.Lists.{all-fit, HostRun};
 
 // The session as a host in C keeps it. opened is 0 for closed; any other byte is open.
 #[repr(C)]
@@ -121,11 +120,10 @@ fn run_for_host(
     spaces: &[usize],
     outcomes: &mut [u8],
 ) -> HostAnswer
-    ensures { λ r. ⌜ HostRuns (lent (now (commands .entry)) (now (sizes .entry)) (now (rooms .entry)) (now (spaces .entry)) (now (outcomes .entry)) (now (store .entry)) (session-of session)) session
-        (list-left (r .outcome) (now (rooms .exit)) (now (outcomes .exit)) (now (store .exit)) (r .session)) ⌝ }
+    ensures { λ r. ⌜ HostRun commands sizes store session rooms spaces outcomes (r .outcome) (r .session) ⌝ }
 {
     let count = outcomes.len();
-    let whole = primitives::both(
+    let whole = primitives::and(
         all_fit(sizes, count, commands.len()),
         all_fit(spaces, count, rooms.len()),
     );
@@ -161,8 +159,7 @@ pub extern "C" fn element_run(
     spaces: &[usize],
     outcomes: &mut [u8],
 ) -> u8
-    ensures { λ r. ⌜ HostRuns (lent (now (commands .entry)) (now (sizes .entry)) (now (rooms .entry)) (now (spaces .entry)) (now (outcomes .entry)) (now (store .entry)) (session-of (now (session .entry)))) (now (session .entry))
-        (list-left r (now (rooms .exit)) (now (outcomes .exit)) (now (store .exit)) (now (session .exit))) ⌝ }
+    ensures { λ r. ⌜ HostRun commands sizes store (now (session .entry)) rooms spaces outcomes r (now (session .exit)) ⌝ }
 {
     let was = *session;
     let answer = run_for_host(commands, sizes, store, was, rooms, spaces, outcomes);

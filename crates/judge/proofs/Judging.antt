@@ -1,212 +1,277 @@
--- Steps 10 to 13, row by row, at an object of the session and at a found record.
+-- Steps 10 to 13, action by action, at an object of the session and at a found record.
 use Prim.Native.Nat.{ℕ, _+_}
 use mathlib.Core.Path.{_≡_, refl, sym, ap, _∙_}
-use mathlib.Core.Bool.{Bool, true, false, and-false}
+use mathlib.Core.Bool.{Bool, true, false, not, _||_}
 use mathlib.Core.List.{List, [], _∷_}
 use mathlib.Core.Option.{some}
 use native.Mathlib.Omega.{arith}
-use borrow.Author.Tests.{leb-true, not-true}
+use borrow.Author.Tests.{leb-true, not-true, not-false}
 use lib.Dec.{leb}
 use lib.ListN.{length, getD, take, drop, length-take, length-drop}
 use lib.Seq.{getD-drop}
+use Rattle.rules.specs.declared.Kind.{Kind}
+use Rattle.rules.specs.declared.Kind.the-variants.{LifeCycle}
 use Rattle.rules.specs.declared.ObjectNumber.{ObjectNumber}
 use Rattle.rules.specs.declared.Session.{Session}
-use Rattle.rules.specs.declared.Slot.{Slot}
-use Rattle.rules.specs.declared.Slot.the-variants.{Change, Read}
 use Rattle.rules.specs.declared.Verdict.{Verdict}
-use Rattle.rules.specs.declared.Verdict.the-variants.{Refused}
-use Rattle.rules.specs.declared.Refusal.the-variants.{AccessDenied, InvalidObject}
-use Rattle.rules.specs.declared.Row.{Row}
-use Rattle.rules.specs.declared.Row.the-variants.{GetData, GetMetadata, Write, EraseAndWrite, SetMetadata, OpenApplication, CloseApplication, Unknown}
-use Rattle.rules.specs.Basic.{if_then_else_, is-some}
-use Rattle.rules.specs.Command.{row, names-object, offset, asked-length, sent-data, sent-metadata}
-use Rattle.rules.specs.Expression.{always, never, expression, expression-bytes, read-expression, holds, may-become}
-use Rattle.rules.specs.Object.{Object, used, in-session, expression-in, object-allowed}
+use Rattle.rules.specs.declared.Verdict.the-variants.{Refused, Accepted}
+use Rattle.rules.specs.declared.Refusal.{Refusal}
+use Rattle.rules.specs.declared.Refusal.the-variants.{AccessDenied, InvalidObject, BoundaryExceeded, InvalidData}
+use Rattle.rules.specs.declared.Action.{Action}
+use Rattle.rules.specs.declared.Action.the-variants.{GetData, GetMetadata, Write, EraseAndWrite, SetMetadata}
+use Rattle.rules.specs.Basic.{if_then_else_}
+use Rattle.rules.specs.Command.{offset, asked-length, sent-data, sent-metadata}
+use Rattle.rules.specs.Expression.{always, never, may-become}
+use Rattle.rules.specs.Object.{Object, used, is, of-session}
 use Rattle.rules.specs.Metadata.{metadata, metadata-allowed}
-use Rattle.rules.specs.Session.{session-object}
-use Rattle.rules.specs.Operation.{getting, getting-metadata, writing, setting-metadata, setting-session, operation, named, requested}
-use Rattle.rules.specs.Refusals.{_refused_or_, no-such-object, late, late-of, from-nine}
-use Rattle.rules.proofs.Expressions.{read-bytes}
-use Rattle.rules.proofs.Tests.{at-place}
-use Rattle.rules.proofs.Rows.{gets-or-sets}
-use Rattle.store.specs.Places.{object-at, Stored}
-use Rattle.store.proofs.Standing.{standing}
-use Rattle.store.proofs.Placing.{slot-expression}
-use Rattle.command.specs.InForm.{InForm}
-use Rattle.command.proofs.InForm.{names-one}
+use Rattle.rules.specs.Session.{session-change, session-object}
+use Rattle.rules.specs.Chain.{_refused_or_, _and-then_}
+use Rattle.rules.specs.Access.{Seen, holds, asked, granted}
+use Rattle.rules.specs.Operation.{getting, getting-metadata, value-allowed, writing, setting-metadata, operation}
+use Rattle.rules.specs.Refusals.{ruling-on, fitting, late}
+use Rattle.rules.proofs.Tests.{or-parts}
+use Rattle.rules.proofs.Facts.{storable, allowed}
+use Rattle.record.specs.Places.{object-at, Stored}
+use Rattle.record.proofs.Standing.{standing}
 use Rattle.judge.specs.declared.Target.{Target}
 use Rattle.judge.specs.declared.Target.the-variants.{InSession, InStore, Nothing}
-use Rattle.judge.specs.Targets.{kept, target-object, Placed}
+use Rattle.judge.specs.Targets.{target-object, Placed}
+use Rattle.judge.specs.Verdicts.{get-verdict, write-verdict, state-verdict, metadata-verdict, session-verdict}
 
--- `judge_get` and `judge_write`
-module _ (c : List ℕ) (k : ℕ) (ek : k ≡ offset c) (r : Verdict) (g w : Bool) (m room : ℕ) where
-  pub get-by : (n : ℕ) → n ≡ asked-length c → w ≡ leb (k + n) m → r ≡ late g w true n room →
-      r ≡ late g (leb (offset c + asked-length c) m) true (asked-length c) room
-  get-by n en ew e = e ∙ (λ i. late g ((ew ∙ (λ j. leb (ek j + en j) m)) i) true (en i) room)
+-- what the calls gave ---------------------------------------------------------------------------------------------------------
 
-  pub write-by : (a : Bool) (d : List ℕ) → d ≡ sent-data c → w ≡ leb (k + length d) m → r ≡ late g w a 0 room →
-      r ≡ late g (leb (offset c + length (sent-data c)) m) a 0 room
-  write-by a d ed ew e = e ∙ (λ i. late g ((ew ∙ (λ j. leb (ek j + length (ed j)) m)) i) a 0 room)
+-- a boundary test that was called, and then step 13
+module _ (c : List ℕ) (k : ℕ) (ek : k ≡ offset c) (q : Bool) (m room : ℕ) where
+  module _ (n : ℕ) (en : n ≡ asked-length c) (eq : q ≡ leb (k + n) m) where
+    asked-within : q ≡ leb (offset c + asked-length c) m
+    asked-within = eq ∙ (λ i. leb (ek i + en i) m)
+
+    pub get-past : not q ≡ true → Refused BoundaryExceeded ≡ get-verdict c m room
+    unfolding _refused_or_
+    get-past h = rw (← asked-within, h)
+
+    pub get-within : (r : Verdict) → not q ≡ false → r ≡ fitting n room → r ≡ get-verdict c m room
+    unfolding _refused_or_
+    get-within r h e = rw (← asked-within, h) (e ∙ ap (λ x. fitting x room) en)
+
+  module _ (d : List ℕ) (ed : d ≡ sent-data c) (eq : q ≡ leb (k + length d) m) where
+    pub sent-within : q ≡ leb (offset c + length (sent-data c)) m
+    sent-within = eq ∙ (λ i. leb (ek i + length (ed i)) m)
+
+    pub write-past : not q ≡ true → Refused BoundaryExceeded ≡ write-verdict c m room
+    unfolding _refused_or_
+    write-past h = rw (← sent-within, h)
+
+    pub write-within : (r : Verdict) → not q ≡ false → r ≡ fitting 0 room → r ≡ write-verdict c m room
+    unfolding _refused_or_
+    write-within r h e = rw (← sent-within, h) e
 
 -- `judge_state`
-pub first-byte : (c : List ℕ) → getD c 8 0 ≡ getD (sent-data c) 0 0
+first-byte : (c : List ℕ) → getD c 8 0 ≡ getD (sent-data c) 0 0
 unfolding sent-data
 first-byte c = sym (getD-drop 8 c 0 0)
 
-pub state-by : (c : List ℕ) (byte room : ℕ) (g w a : Bool) (r : Verdict) → a ≡ may-become byte (getD c 8 0) → r ≡ late g w a 0 room →
-    r ≡ late g w (may-become byte (getD (sent-data c) 0 0)) 0 room
-state-by c byte room g w a r ea e = e ∙ ap (λ x. late g w x 0 room) (ea ∙ ap (may-become byte) (first-byte c))
+module _ (c : List ℕ) (kind : Kind) (byte room : ℕ) (l : Bool) (el : l ≡ is LifeCycle kind) where
+  pub state-denied : not l ≡ true → Refused AccessDenied ≡ state-verdict c kind byte room
+  unfolding _refused_or_
+  state-denied h = rw (← el, h)
 
--- `slot_holds`
-module _ (p : ℕ) (b : List ℕ) (t : Stored p b) (w : Slot) (part : List ℕ) (e : part ≡ expression-bytes (expression-in w (object-at p b))) where
-  pub part-well-formed : is-some (expression part) ≡ true
-  part-well-formed = ap (λ x. is-some (expression x)) e ∙ slot-expression p b w t
+  module _ (hl : not l ≡ false) (q : Bool) (eq : q ≡ leb (offset c + length (sent-data c)) 1) where
+    pub state-past : not q ≡ true → Refused BoundaryExceeded ≡ state-verdict c kind byte room
+    unfolding _refused_or_
+    state-past h = rw (← el, hl, ← eq, h)
 
-  pub part-holds : (s : Session) (lcso : ℕ) (r : Bool) → r ≡ holds s lcso (read-expression part) → r ≡ holds s lcso (expression-in w (object-at p b))
-  part-holds s lcso r er = er ∙ ap (holds s lcso) (ap read-expression e ∙ read-bytes (expression-in w (object-at p b)))
+    module _ (hq : not q ≡ false) (a : Bool) (ea : a ≡ may-become byte (getD c 8 0)) where
+      becomes : a ≡ may-become byte (getD (sent-data c) 0 0)
+      becomes = ea ∙ ap (may-become byte) (first-byte c)
+
+      pub state-falls : not a ≡ true → Refused InvalidData ≡ state-verdict c kind byte room
+      unfolding _refused_or_
+      state-falls h = rw (← el, hl, ← eq, hq, ← becomes, h)
+
+      pub state-taken : (r : Verdict) → not a ≡ false → r ≡ fitting 0 room → r ≡ state-verdict c kind byte room
+      unfolding _refused_or_
+      state-taken r h e = rw (← el, hl, ← eq, hq, ← becomes, h) e
+
+-- `judge_metadata`
+module _ (lcso stored : ℕ) (c d : List ℕ) (room : ℕ) (es : stored ≡ lcso) (ed : d ≡ sent-metadata c) (a : Bool) (ea : a ≡ metadata-allowed stored d) where
+  content-told : a ≡ metadata-allowed lcso (sent-metadata c)
+  content-told = ea ∙ (λ i. metadata-allowed (es i) (ed i))
+
+  pub metadata-refused : not a ≡ true → Refused InvalidData ≡ metadata-verdict lcso (sent-metadata c) room
+  unfolding _refused_or_
+  metadata-refused h = rw (← content-told, h)
+
+  pub metadata-taken : (r : Verdict) → not a ≡ false → r ≡ fitting 0 room → r ≡ metadata-verdict lcso (sent-metadata c) room
+  unfolding _refused_or_
+  metadata-taken r h e = rw (← content-told, h) e
+
+-- a match's arm
+pub kind-told : (w v : Kind) (r : Bool) → w ≡ v → r ≡ is LifeCycle v → r ≡ is LifeCycle w
+kind-told w v r e f = f ∙ ap (is LifeCycle) (sym e)
+
+pub session-by : (w v : Action) (c : List ℕ) (k : Kind) (byte room : ℕ) (r : Verdict) → w ≡ v → r ≡ session-verdict v c k byte room →
+    r ≡ session-verdict w c k byte room
+session-by w v c k byte room r e f = f ∙ ap (λ a. session-verdict a c k byte room) (sym e)
+
+-- an action's verdict, then step 13 ------------------------------------------------------------------------------------------
+
+one-step : (t : Bool) (r : Refusal) (w : Verdict) → ((t refused r or Accepted) and-then w) ≡ (t refused r or w)
+unfolding _refused_or_ _and-then_
+one-step true r w = refl
+one-step false r w = refl
+
+two-steps : (t u : Bool) (r q : Refusal) (w : Verdict) → ((t refused r or (u refused q or Accepted)) and-then w) ≡ (t refused r or (u refused q or w))
+unfolding _refused_or_ _and-then_
+two-steps true u r q w = refl
+two-steps false true r q w = refl
+two-steps false false r q w = refl
 
 -- a get's answer is as long as asked, where it is within
-get-lengths : (g : Bool) (a n room : ℕ) (xs : List ℕ) →
-    late g (leb (a + n) (length xs)) true n room ≡ late g (leb (a + n) (length xs)) true (length (take n (drop a xs))) room
-get-lengths g a n room xs = go (leb (a + n) (length xs)) refl
+get-lengths : (a n room : ℕ) (xs : List ℕ) →
+    (not (leb (a + n) (length xs)) refused BoundaryExceeded or fitting n room) ≡
+    (not (leb (a + n) (length xs)) refused BoundaryExceeded or fitting (length (take n (drop a xs))) room)
+get-lengths a n room xs = go (leb (a + n) (length xs)) refl
   where
-    go : (t : Bool) → leb (a + n) (length xs) ≡ t → late g t true n room ≡ late g t true (length (take n (drop a xs))) room
+    go : (t : Bool) → leb (a + n) (length xs) ≡ t →
+        (not t refused BoundaryExceeded or fitting n room) ≡ (not t refused BoundaryExceeded or fitting (length (take n (drop a xs))) room)
     go true e =
         let k = leb-true (a + n) (length xs) e in
         let l : n ≡ length (take n (drop a xs)) = simp (length-take, length-drop) (omega arith) in
-        ap (λ x. late g true true x room) l
-    go false e = unfold late _refused_or_ in refl
+        ap (λ x. not true refused BoundaryExceeded or fitting x room) l
+    go false e = unfold _refused_or_ in refl
 
--- rows that name no object
-module _ (w : Row) (c : List ℕ) (o : Object) (s : Session) (room : ℕ) (r : Verdict) (e : r ≡ late true true true 0 room) where
-  pub open-judged : w ≡ OpenApplication → r ≡ late-of (operation w c o s) room
-  unfolding operation setting-session late-of
-  open-judged h = rw h e
+module _ (c : List ℕ) (o : Object) (see : Seen) (room : ℕ) where
+  abbrev own : Action → Verdict
+  own a = operation a c o see .verdict and-then fitting (length (operation a c o see .answer)) room
 
-  pub close-judged : w ≡ CloseApplication → r ≡ late-of (operation w c o s) room
-  unfolding operation setting-session late-of
-  close-judged h = rw h e
+  get-own : get-verdict c (used o) room ≡ own GetData
+  unfolding operation getting
+  get-own = get-lengths (offset c) (asked-length c) room (o .content) ∙ sym (one-step _ BoundaryExceeded _)
 
-  pub unknown-judged : w ≡ Unknown → r ≡ late-of (operation w c o s) room
-  unfolding operation setting-session late-of
-  unknown-judged h = rw h e
+  tell-own : fitting (length (metadata o)) room ≡ own GetMetadata
+  unfolding operation getting-metadata _and-then_
+  tell-own = refl
+
+  set-own : metadata-verdict (o .lcso) (sent-metadata c) room ≡ own SetMetadata
+  unfolding operation setting-metadata
+  set-own = sym (one-step _ InvalidData _)
+
+  -- a write, over any old content
+  writing-own : (old : List ℕ) →
+      (not (leb (offset c + length (sent-data c)) (o .maximum)) refused BoundaryExceeded or
+      not (value-allowed o (getD (sent-data c) 0 0)) refused InvalidData or fitting 0 room) ≡
+      (writing old c o see .verdict and-then fitting (length (writing old c o see .answer)) room)
+  unfolding writing
+  writing-own old = sym (two-steps _ _ BoundaryExceeded InvalidData _)
+
+  -- access was judged before
+  at-granted : (a : Action) → granted a o see ≡ true → late (ruling-on a c (some o) see) room ≡ own a
+  unfolding late ruling-on _refused_or_
+  at-granted a g = rw g
+
+  pub at-denied : (a : Action) → granted a o see ≡ false → late (ruling-on a c (some o) see) room ≡ Refused AccessDenied
+  unfolding late ruling-on _refused_or_ _and-then_
+  at-denied a g = rw g
 
 -- at an object of the session -----------------------------------------------------------------------------------------------
 
-writable-holds : (s : Session) (byte : ℕ) (wr : Bool) → wr ≡ holds s byte (if wr then always else never)
-unfolding holds
-writable-holds s byte true = refl
-writable-holds s byte false = refl
+module _ (c : List ℕ) (n byte : ℕ) (k : Kind) (see : Seen) (room : ℕ) (of : of-session k ≡ true) where
+  abbrev object : Object
+  object = session-object n k byte
 
-module _ (w : Row) (c : List ℕ) (n byte : ℕ) (wr : Bool) (s : Session) (room : ℕ) where
-  pub session-get : (r : Verdict) → w ≡ GetData → r ≡ late true (leb (offset c + asked-length c) 1) true (asked-length c) room →
-      r ≡ late-of (operation w c (kept n byte wr) s) room
-  unfolding operation getting late-of kept session-object holds
-  session-get r e f = rw e (f ∙ get-lengths true (offset c) (asked-length c) room (byte ∷ []))
+  -- a write, of either action, over any old content
+  state-own : (a : Action) (old : List ℕ) → granted a object see ≡ is LifeCycle k →
+      (operation a c object see .verdict and-then fitting (length (operation a c object see .answer)) room) ≡
+      (writing old c object see .verdict and-then fitting (length (writing old c object see .answer)) room) →
+      state-verdict c k byte room ≡ late (ruling-on a c (some object) see) room
+  state-own a old g w = by (is LifeCycle k) refl
+    where
+      by : (t : Bool) → is LifeCycle k ≡ t → state-verdict c k byte room ≡ late (ruling-on a c (some object) see) room
+      by true e =
+          unfold _refused_or_ in rw e
+          (sym (at-granted c object see room a (g ∙ e) ∙ w ∙ sym (writing-own c object see room old) ∙ (unfold session-object value-allowed in rw e)))
+      by false e = unfold _refused_or_ in rw e (sym (at-denied c object see room a (g ∙ e)))
 
-  module _ (i : in-session n ≡ true) where
-    pub session-tell : w ≡ GetMetadata → Refused AccessDenied ≡ late-of (operation w c (kept n byte wr) s) room
-    unfolding operation getting-metadata late-of kept session-object late _refused_or_
-    session-tell e = rw (e, i)
+  writable : holds see byte (session-change k) ≡ is LifeCycle k
+  unfolding session-change
+  writable = by (is LifeCycle k)
+    where
+      by : (t : Bool) → holds see byte (if t then always else never) ≡ t
+      by true = unfold holds in refl
+      by false = unfold holds in refl
 
-    pub session-set : w ≡ SetMetadata → Refused AccessDenied ≡ late-of (operation w c (kept n byte wr) s) room
-    unfolding operation setting-metadata late-of kept session-object late _refused_or_
-    session-set e = rw (e, i)
+  get-one : get-verdict c 1 room ≡ get-verdict c (used object) room
+  unfolding session-object
+  get-one = refl
 
-    module _ (r : Verdict) (f : r ≡ late wr (leb (offset c + length (sent-data c)) 1) (may-become byte (getD (sent-data c) 0 0)) 0 room) where
-      -- over any old content
-      session-writing : (old : List ℕ) → r ≡ late-of (writing old c (kept n byte wr) s) room
-      unfolding writing late-of kept session-object
-      session-writing old =
-          rw i (f ∙ ap (λ g. late g (leb (offset c + length (sent-data c)) 1) (may-become byte (getD (sent-data c) 0 0)) 0 room) (writable-holds s byte wr))
-
-      pub session-write : w ≡ Write → r ≡ late-of (operation w c (kept n byte wr) s) room
-      unfolding operation
-      session-write e = rw e (session-writing (kept n byte wr .content))
-
-      pub session-erase : w ≡ EraseAndWrite → r ≡ late-of (operation w c (kept n byte wr) s) room
-      unfolding operation
-      session-erase e = rw e (session-writing [])
+  pub session-judged : (a : Action) → session-verdict a c k byte room ≡ late (ruling-on a c (some (session-object n k byte)) see) room
+  session-judged GetData =
+      get-one ∙ get-own c object see room ∙ sym (at-granted c object see room GetData (unfold granted asked session-object holds in refl))
+  session-judged GetMetadata = sym (at-denied c object see room GetMetadata (unfold granted asked session-object holds in rw of))
+  session-judged Write = state-own Write (object .content) (unfold granted asked session-object in writable) (unfold operation in refl)
+  session-judged EraseAndWrite = state-own EraseAndWrite [] (unfold granted asked session-object in writable) (unfold operation in refl)
+  session-judged SetMetadata = sym (at-denied c object see room SetMetadata (unfold granted asked session-object holds in rw of))
 
 -- at a found record ---------------------------------------------------------------------------------------------------------
 
-module _ (p : ℕ) (b : List ℕ) (t : Stored p b) where
-  pub outside : in-session (object-at p b .number) ≡ false
-  outside = unfold object-allowed in not-true (in-session (object-at p b .number)) (at-place _ (standing p b (t .stands) .allowed) 1)
+module _ (p : ℕ) (b : List ℕ) (t : Stored p b) (a : Action) (c : List ℕ) (see : Seen) (room : ℕ) (g : Bool) (eg : g ≡ granted a (object-at p b) see) where
+  pub stored-denied : not g ≡ true → Refused AccessDenied ≡ late (ruling-on a c (some (object-at p b)) see) room
+  stored-denied h = sym (at-denied c (object-at p b) see room a (sym eg ∙ not-true g h))
 
-  -- `judge_metadata` and `judge_data`: the stored LcsO is asked
-  module _ (c : List ℕ) (s : Session) (g : Bool) (room : ℕ) (r : Verdict) (lcso : ℕ) (el : lcso ≡ object-at p b .lcso)
-      (eg : g ≡ holds s lcso (expression-in Change (object-at p b))) where
-    at-stored : g ≡ holds s (object-at p b .lcso) (object-at p b .change)
-    unfolding expression-in
-    at-stored = eg ∙ ap (λ l. holds s l (object-at p b .change)) el
+  module _ (h : not g ≡ false) (r : Verdict) where
+    own-judged : (v : Action) → a ≡ v →
+        r ≡ (operation v c (object-at p b) see .verdict and-then fitting (length (operation v c (object-at p b) see .answer)) room) →
+        r ≡ late (ruling-on a c (some (object-at p b)) see) room
+    own-judged v e q =
+        q ∙ ap (λ x. operation x c (object-at p b) see .verdict and-then fitting (length (operation x c (object-at p b) see .answer)) room) (sym e) ∙
+        sym (at-granted c (object-at p b) see room a (sym eg ∙ not-false g h))
 
-    pub metadata-by : (a : Bool) (d : List ℕ) → d ≡ sent-metadata c → a ≡ metadata-allowed lcso d → r ≡ late g true a 0 room →
-        r ≡ late (holds s (object-at p b .lcso) (object-at p b .change)) true (metadata-allowed (object-at p b .lcso) (sent-metadata c)) 0 room
-    metadata-by a d ed ea e = e ∙ (λ i. late (at-stored i) true ((ea ∙ (λ j. metadata-allowed (el j) (ed j))) i) 0 room)
+    pub stored-get : (u : ℕ) → u ≡ used (object-at p b) → r ≡ get-verdict c u room → a ≡ GetData → r ≡ late (ruling-on a c (some (object-at p b)) see) room
+    stored-get u eu f e = own-judged GetData e (f ∙ ap (λ x. get-verdict c x room) eu ∙ get-own c (object-at p b) see room)
 
-    pub data-by : (m : ℕ) → m ≡ object-at p b .maximum → r ≡ late g (leb (offset c + length (sent-data c)) m) true 0 room →
-        r ≡ late (holds s (object-at p b .lcso) (object-at p b .change)) (leb (offset c + length (sent-data c)) (object-at p b .maximum)) true 0 room
-    data-by m em e = e ∙ (λ i. late (at-stored i) (leb (offset c + length (sent-data c)) (em i)) true 0 room)
+    pub stored-tell : (n : ℕ) → n ≡ length (metadata (object-at p b)) → r ≡ fitting n room → a ≡ GetMetadata →
+        r ≡ late (ruling-on a c (some (object-at p b)) see) room
+    stored-tell n en f e = own-judged GetMetadata e (f ∙ ap (λ x. fitting x room) en ∙ tell-own c (object-at p b) see room)
 
-  module _ (w : Row) (c : List ℕ) (s : Session) (room : ℕ) (r : Verdict) where
-    pub stored-get : (g : Bool) (u lcso : ℕ) → w ≡ GetData → lcso ≡ object-at p b .lcso → g ≡ holds s lcso (expression-in Read (object-at p b)) → u ≡ used (object-at p b) →
-        r ≡ late g (leb (offset c + asked-length c) u) true (asked-length c) room → r ≡ late-of (operation w c (object-at p b) s) room
-    unfolding operation getting late-of expression-in
-    stored-get g u lcso e el eg eu f =
-        rw e
-        (f ∙ (λ i. late ((eg ∙ ap (λ l. holds s l (object-at p b .read)) el) i) (leb (offset c + asked-length c) (eu i)) true (asked-length c) room) ∙
-        get-lengths _ (offset c) (asked-length c) room (object-at p b .content))
+    pub stored-set : r ≡ metadata-verdict (object-at p b .lcso) (sent-metadata c) room → a ≡ SetMetadata → r ≡ late (ruling-on a c (some (object-at p b)) see) room
+    stored-set f e = own-judged SetMetadata e (f ∙ set-own c (object-at p b) see room)
 
-    pub stored-tell : (n : ℕ) → w ≡ GetMetadata → n ≡ length (metadata (object-at p b)) → r ≡ late true true true n room →
-        r ≡ late-of (operation w c (object-at p b) s) room
-    unfolding operation getting-metadata late-of
-    stored-tell n e en f = rw (e, outside) (f ∙ ap (λ k. late true true true k room) en)
+    module _ (m : ℕ) (em : m ≡ object-at p b .maximum) (f : r ≡ write-verdict c m room) where
+      any-value : (state : ℕ) → value-allowed (object-at p b) state ≡ true
+      unfolding value-allowed of-session
+      any-value state =
+          let o = object-at p b in
+          let s = allowed o (standing p b (t .stands) .allowed) in
+          rw (or-parts (is LifeCycle (o .kind)) _ (storable (o .kind) (o .maximum) (o .content) (s .content) .not-of-session) .0)
 
-    module _ (f : r ≡ late (holds s (object-at p b .lcso) (object-at p b .change)) (leb (offset c + length (sent-data c)) (object-at p b .maximum)) true 0 room) where
-      -- over any old content
-      stored-writing : (old : List ℕ) → r ≡ late-of (writing old c (object-at p b) s) room
-      unfolding writing late-of
-      stored-writing old = rw outside f
+      stored-writing : (old : List ℕ) →
+          r ≡ (writing old c (object-at p b) see .verdict and-then fitting (length (writing old c (object-at p b) see .answer)) room)
+      unfolding _refused_or_
+      stored-writing old = f ∙ rw em (rw (any-value (getD (sent-data c) 0 0)) at (writing-own c (object-at p b) see room old))
 
-      pub stored-write : w ≡ Write → r ≡ late-of (operation w c (object-at p b) s) room
-      unfolding operation
-      stored-write e = rw e (stored-writing (object-at p b .content))
+      pub stored-write : a ≡ Write → r ≡ late (ruling-on a c (some (object-at p b)) see) room
+      stored-write e = own-judged Write e (unfold operation in stored-writing (object-at p b .content))
 
-      pub stored-erase : w ≡ EraseAndWrite → r ≡ late-of (operation w c (object-at p b) s) room
-      unfolding operation
-      stored-erase e = rw e (stored-writing [])
+      pub stored-erase : a ≡ EraseAndWrite → r ≡ late (ruling-on a c (some (object-at p b)) see) room
+      stored-erase e = own-judged EraseAndWrite e (unfold operation in stored-writing [])
 
-    pub stored-set : w ≡ SetMetadata →
-        r ≡ late (holds s (object-at p b .lcso) (object-at p b .change)) true (metadata-allowed (object-at p b .lcso) (sent-metadata c)) 0 room →
-        r ≡ late-of (operation w c (object-at p b) s) room
-    unfolding operation setting-metadata late-of
-    stored-set e f = rw (e, outside) f
+-- at the target ------------------------------------------------------------------------------------------------------------------
 
--- step 9, and the later ones at the object named --------------------------------------------------------------------------------
-
-module _ (c b : List ℕ) (os : List Object) (s : Session) (room : ℕ) (w : Row) (ew : w ≡ row c) (aim : Target) (ea : target-object aim b ≡ named c os s) where
-  at-object : (r : Verdict) (o : Object) → target-object aim b ≡ some o → r ≡ late-of (operation w c o s) room → r ≡ from-nine c room (named c os s) s
-  unfolding from-nine no-such-object requested _refused_or_
-  at-object r o eo f = rw (← ea, eo, and-false (names-object c), ← ew) f
-
-  pub at-session : (r : Verdict) (n : ObjectNumber) (byte : ℕ) (wr : Bool) → aim ≡ InSession n byte wr → r ≡ late-of (operation w c (kept (n .0) byte wr) s) room →
-      r ≡ from-nine c room (named c os s) s
+module _ (a : Action) (c b : List ℕ) (see : Seen) (room : ℕ) (aim : Target) (t : Placed aim c b) where
+  pub at-session : (r : Verdict) (n : ObjectNumber) (k : Kind) (byte : ℕ) → r ≡ session-verdict a c k byte room → aim ≡ InSession n k byte →
+      r ≡ late (ruling-on a c (target-object aim b) see) room
   unfolding target-object
-  at-session r n byte wr e f = at-object r (kept (n .0) byte wr) (rw e) f
+  at-session r n k byte f e = let of : of-session k ≡ true = rw e at t in f ∙ rw e (session-judged c (n .0) byte k see room of a)
 
-  pub at-record : (r : Verdict) (p : ℕ) → aim ≡ InStore p → r ≡ late-of (operation w c (object-at p b) s) room → r ≡ from-nine c room (named c os s) s
+  pub at-record : (r : Verdict) (p : ℕ) → r ≡ late (ruling-on a c (some (object-at p b)) see) room → aim ≡ InStore p →
+      r ≡ late (ruling-on a c (target-object aim b) see) room
   unfolding target-object
-  at-record r p e f = at-object r (object-at p b) (rw e) f
+  at-record r p f e = rw e f
 
-  pub at-nothing : InForm true c s → gets-or-sets w ≡ true → aim ≡ Nothing → Refused InvalidObject ≡ from-nine c room (named c os s) s
-  unfolding from-nine no-such-object _refused_or_ target-object
-  at-nothing i g e = rw (← ea, e, names-one true c s w w ew i refl g)
+  pub at-nothing : aim ≡ Nothing → Refused InvalidObject ≡ late (ruling-on a c (target-object aim b) see) room
+  unfolding target-object late ruling-on _and-then_
+  at-nothing e = rw e
 
--- what is known of a target in hand
-module _ (c b : List ℕ) (aim : Target) (t : Placed aim c b) where
-  pub session-number : (n : ObjectNumber) (byte : ℕ) (wr : Bool) → aim ≡ InSession n byte wr → in-session (n .0) ≡ true
-  session-number n byte wr e = rw e at t
-
-  pub record-stands : (p : ℕ) → aim ≡ InStore p → Stored p b
-  record-stands p e = (rw e at t) .0
+pub record-stands : (c b : List ℕ) (aim : Target) → Placed aim c b → (p : ℕ) → aim ≡ InStore p → Stored p b
+record-stands c b aim t p e = (rw e at t) .0

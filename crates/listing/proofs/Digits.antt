@@ -29,8 +29,7 @@ module _ (at₀ at i : ℕ) (b o₀ o : List ℕ) (w : Onward at₀ (upper-hex b
   pub hex-on : (o₁ : List ℕ) (n₁ : ℕ) → i < length b → Put at (upper-hex (getD b i 0 ∷ [])) o o₁ n₁
       → Onward at₀ (upper-hex b) o₀ n₁ (upper-hex (drop (i + 1) b)) o₁
   unfolding upper-hex
-  hex-on o₁ n₁ h p =
-      onward (upper-hex (getD b i 0 ∷ [])) (upper-hex (drop (i + 1) b)) o₁ n₁ w (rw (add-one, drop-cons b i 0 h)) p
+  hex-on o₁ n₁ h p = onward (upper-hex (getD b i 0 ∷ [])) (upper-hex (drop (i + 1) b)) o₁ n₁ w (rw (add-one, drop-cons b i 0 h)) p
 
   pub hex-end : length b ≤ i → at ≤ length o → Put at₀ (upper-hex b) o₀ o at
   unfolding upper-hex

@@ -13,10 +13,11 @@ use lib.Seq.{drop-cons, drop-drop}
 use Rattle.rules.specs.declared.Session.{Session}
 use Rattle.rules.specs.declared.Verdict.{Verdict}
 use Rattle.rules.specs.declared.Verdict.the-variants.{Refused, Accepted}
-use Rattle.rules.specs.Basic.{if_then_else_, zeros, high-at}
+use Rattle.rules.specs.Basic.{if_then_else_, zeros, big-endian-at}
 use Rattle.rules.specs.Hex.{ascii}
 use Rattle.rules.specs.Object.{Object}
 use Rattle.rules.specs.Factory.{factory-store, fresh-session, factory-made}
+use Rattle.rules.specs.Operation.{Operation}
 use Rattle.rules.specs.Step.{After, declined, performed, answered, judged, unanswered, step}
 use Rattle.rules.specs.Program.{digit, upper-hex, line, response-in, answer-line, lines, printed}
 use Rattle.listing.specs.Text.{in-front, fitting, Put}
@@ -24,10 +25,10 @@ use Rattle.listing.proofs.Texts.{Onward, put-next, onward, onward-last,
 
 -- the outcome is one digit ------------------------------------------------------------------------------------------------------
 
-answered-small : (v : Verdict) (c room store : List ℕ) (os : List Object) (s : Session) → answered v c room store os s .outcome < 16
+answered-small : (v : Verdict) (p : Operation) (room store : List ℕ) (os : List Object) (s : Session) → answered v p room store os s .outcome < 16
 unfolding answered declined performed
-answered-small (Refused r) c room store os s = omega arith
-answered-small Accepted c room store os s = omega arith
+answered-small (Refused r) p room store os s = omega arith
+answered-small Accepted p room store os s = omega arith
 
 either-small : (t : Bool) (a b : After) → a .outcome < 16 → b .outcome < 16 → (if t then a else b) .outcome < 16
 either-small true a b h k = h
@@ -35,7 +36,7 @@ either-small false a b h k = k
 
 step-small : (c room store : List ℕ) (s : Session) → step c room store s .outcome < 16
 unfolding step judged unanswered
-step-small c room store s = either-small (ltb (length room) 4) _ _ (omega arith) (answered-small _ c room store _ _)
+step-small c room store s = either-small (ltb (length room) 4) _ _ (omega arith) (answered-small _ _ room store _ _)
 
 pub outcome-small : (n : ℕ) (room′ store′ : List ℕ) (s′ : Session) (c room store : List ℕ) (s : Session) →
     record { outcome = n; room = room′; store = store′; session = s′ } ≡ step c room store s → n < 16
@@ -62,11 +63,11 @@ module _ (n : ℕ) (room′ store′ : List ℕ) (s′ : Session) (c store : Lis
   line-session = ap (λ (a : After). a .session) e
 
 -- `put_response`: a response that fills the room or less
-pub response-put : (at n k z : ℕ) (room o after : List ℕ) → k ≡ high-at 2 room → z ≡ min (4 + k) (length room) → Put at (upper-hex (take z room)) o after n
+pub response-put : (at n k z : ℕ) (room o after : List ℕ) → k ≡ big-endian-at 2 room → z ≡ min (4 + k) (length room) → Put at (upper-hex (take z room)) o after n
     → Put at (upper-hex (response-in room)) o after n
 unfolding response-in
 response-put at n k z room o after e f p =
-    let fills : take z room ≡ take (4 + high-at 2 room) room = ap (λ i. take i room) f ∙ take-min (4 + k) room ∙ ap (λ i. take (4 + i) room) e in
+    let fills : take z room ≡ take (4 + big-endian-at 2 room) room = ap (λ i. take i room) f ∙ take-min (4 + k) room ∙ ap (λ i. take (4 + i) room) e in
     rw (← fills) p
 
 -- `put_cut`
@@ -87,7 +88,7 @@ enough (suc n) zero (x ∷ xs) store s h k = absurd (omega arith)
 enough (suc n) (suc m) [] store s h k = refl
 enough (suc n) (suc m) (x ∷ []) store s h k = refl
 enough (suc n) (suc m) (x ∷ y ∷ rest) store s h k =
-    let size = high-at 0 (x ∷ y ∷ []) in
+    let size = big-endian-at 0 (x ∷ y ∷ []) in
     let a = step (take size rest) (zeros 1504) store s in
     ap (λ more. if ltb (length rest) size then line (ascii "cut") else answer-line a ++ more)
     (enough n m (drop size rest) (a .store) (a .session) (simp length-drop (omega arith)) (simp length-drop (omega arith)))
@@ -121,7 +122,7 @@ led input at h =
 
 -- the loop of `put_lines`
 module _ (input all o₀ store o : List ℕ) (s : Session) (at next : ℕ) (w : Onward 0 all o₀ next (lines-of (drop at input) store s) o) where
-  module _ (size : ℕ) (e : size ≡ high-at at input) (h : 2 ≤ length input - at) where
+  module _ (size : ℕ) (e : size ≡ big-endian-at at input) (h : 2 ≤ length input - at) where
     pub lines-on : (o₁ store₁ : List ℕ) (s₁ : Session) (n₁ : ℕ) → size ≤ length input - at - 2 →
         let a = step (take (at + 2 + size - (at + 2)) (drop (at + 2) input)) (zeros 1504) store s in
         Put next (answer-line a) o o₁ n₁ → store₁ ≡ a .store → s₁ ≡ a .session
@@ -161,13 +162,9 @@ lines-start input store o s = record { then = λ after n p. p }
 
 -- `print_all` -------------------------------------------------------------------------------------------------------------------
 
-module _ (text o after : List ℕ) (n : ℕ) (p : Put 0 text o after n) where
-  put-count : n ≡ fitting text o
-  unfolding fitting
-  put-count = p .count ∙ rw zero-add
-
-  put-bytes : after ≡ in-front text o
-  put-bytes = p .bytes
+put-count : (text o after : List ℕ) (n : ℕ) → Put 0 text o after n → n ≡ fitting text o
+unfolding fitting
+put-count text o after n p = p .count ∙ rw zero-add
 
 abbrev too-long : List ℕ
 too-long = 116 ∷ 111 ∷ 111 ∷ 32 ∷ 108 ∷ 111 ∷ 110 ∷ 103 ∷ 10 ∷ []
@@ -181,18 +178,16 @@ module _ (input o after : List ℕ) (n : ℕ) (h : 16384 < length input) (p : Pu
   long-count = put-count (printed input) o after n long-printed
 
   pub long-bytes : after ≡ in-front (printed input) o
-  long-bytes = put-bytes (printed input) o after n long-printed
+  long-bytes = long-printed .bytes
 
 module _ (input o after store : List ℕ) (n : ℕ) (s : Session) (h : length input ≤ 16384) (e : store ≡ factory-made (zeros 6024)) (f : s ≡ fresh-session)
     (p : Put 0 (lines (length input) input store s) o after n) where
   lines-printed : Put 0 (printed input) o after n
   unfolding printed factory-made
-  lines-printed =
-      let made : store ≡ factory-store = e in
-      rw (le-ltb 16384 (length input) h, ← made, ← f) p
+  lines-printed = let made : store ≡ factory-store = e in rw (le-ltb 16384 (length input) h, ← made, ← f) p
 
   pub lines-count : n ≡ fitting (printed input) o
   lines-count = put-count (printed input) o after n lines-printed
 
   pub lines-bytes : after ≡ in-front (printed input) o
-  lines-bytes = put-bytes (printed input) o after n lines-printed
+  lines-bytes = lines-printed .bytes

@@ -31,13 +31,7 @@ drop-min (suc k) (x ∷ o) = rw suc-min-suc (drop-min k o)
 -- nothing is put
 pub put-nothing : (at : ℕ) (o : List ℕ) → at ≤ length o → Put at [] o o at
 unfolding in-front
-put-nothing at o h =
-    record {
-      start = h;
-      bytes = rw take-nil (sym (take-append-drop at o));
-      count = omega arith;
-      whole = refl;
-    }
+put-nothing at o h = record { start = h; bytes = rw take-nil (sym (take-append-drop at o)); count = omega arith; whole = refl }
 
 -- a text, and another after it
 pub put-next : (at : ℕ) (a b o o₁ o₂ : List ℕ) (n₁ n₂ : ℕ) → Put at a o o₁ n₁ → Put n₁ b o₁ o₂ n₂ → Put at (a ++ b) o o₂ n₂
@@ -56,35 +50,20 @@ put-next at a b o o₁ o₂ n₁ n₂ p q =
     take-two (length rest) a b ∙ ap (λ k. take (length rest) a ++ take k b) (sym (length-drop (length a) rest)) in
     let tail : drop (length b) past ≡ drop (length (a ++ b)) rest =
     drop-drop (length b) (length a) rest ∙ ap (λ k. drop k rest) (sym (length-append a b)) in
-    record {
-      start = p .start;
-      bytes = second ∙ rw (shown, ← tail) (simp append-assoc);
-      count = simp length-append (omega arith);
-      whole = omega arith;
-    }
+    record { start = p .start; bytes = second ∙ rw (shown, ← tail) (simp append-assoc); count = simp length-append (omega arith); whole = omega arith }
 
 -- `put_byte`
 pub byte-fits : (at b : ℕ) (o : List ℕ) → at < length o → Put at (b ∷ []) o (set o at b) (at + 1)
 unfolding in-front
 byte-fits at b o h =
     let shown : take (length (drop at o)) (b ∷ []) ≡ b ∷ [] = take-all (length (drop at o)) (b ∷ []) (simp length-drop (omega arith)) in
-    record {
-      start = omega arith;
-      bytes = rw (shown, drop-drop, add-one) (set-split o at b h);
-      count = omega arith;
-      whole = length-set o at b;
-    }
+    record { start = omega arith; bytes = rw (shown, drop-drop, add-one) (set-split o at b h); count = omega arith; whole = length-set o at b }
 
 pub byte-past : (at b : ℕ) (o : List ℕ) → at ≤ length o → length o ≤ at → Put at (b ∷ []) o o at
 unfolding in-front
 byte-past at b o h k =
     let none : drop at o ≡ [] = drop-of-length-le o k in
-    record {
-      start = h;
-      bytes = rw (none, take-all at o) (sym (append-nil o));
-      count = omega arith;
-      whole = refl;
-    }
+    record { start = h; bytes = rw (none, take-all at o) (sym (append-nil o)); count = omega arith; whole = refl }
 
 -- `put_text`
 pub text-put : (at n : ℕ) (text o after : List ℕ) → at ≤ length o → n ≡ min (length o - at) (length text) → after ≡ over at (take n text) o
@@ -99,12 +78,7 @@ text-put at n text o after h e f =
     let past : drop (at + length (take n text)) o ≡ drop (length text) (drop at o) =
     ap (λ k. drop (at + k) o) (size ∙ same) ∙ sym (drop-drop (min (length text) (length (drop at o))) at o) ∙
     drop-min (length text) (drop at o) in
-    record {
-      start = h;
-      bytes = f ∙ rw (past, shown);
-      count = omega arith;
-      whole = ap length f ∙ over-length at (take n text) o (omega arith);
-    }
+    record { start = h; bytes = f ∙ rw (past, shown); count = omega arith; whole = ap length f ∙ over-length at (take n text) o (omega arith) }
 
 -- what is left to put, so that all of a text will have been put
 pub record Onward (at₀ : ℕ) (all o₀ : List ℕ) (at : ℕ) (rest o : List ℕ) : Type 0 where
@@ -113,8 +87,7 @@ pub record Onward (at₀ : ℕ) (all o₀ : List ℕ) (at : ℕ) (rest o : List 
 module _ {at₀ at : ℕ} {all o₀ rest o : List ℕ} where
   -- a part of the rest is put
   pub onward : (text left o₁ : List ℕ) (n₁ : ℕ) → Onward at₀ all o₀ at rest o → rest ≡ text ++ left → Put at text o o₁ n₁ → Onward at₀ all o₀ n₁ left o₁
-  onward text left o₁ n₁ w e p =
-      record { then = λ after n q. w .then after n (rw e (put-next at text left o o₁ after n₁ n p q)) }
+  onward text left o₁ n₁ w e p = record { then = λ after n q. w .then after n (rw e (put-next at text left o o₁ after n₁ n p q)) }
 
   -- all of the rest is put
   pub onward-last : (text after : List ℕ) (n : ℕ) → Onward at₀ all o₀ at rest o → rest ≡ text → Put at text o after n → Put at₀ all o₀ after n

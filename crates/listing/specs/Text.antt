@@ -3,6 +3,8 @@ use Prim.Native.Nat.{ℕ, _+_, _≤_, min}
 use mathlib.Core.List.{List, _++_}
 use mathlib.Core.Path.{_≡_}
 use lib.ListN.{length, take, drop}
+use denote.Ref.{RefT, now}
+use denote.Triple.Both.{Both}
 
 -- a text at the front of an output, cut at the output's end; bytes after it keep their values
 unfoldable pub in-front : List ℕ → List ℕ → List ℕ
@@ -18,3 +20,14 @@ pub record Put (at : ℕ) (text output after : List ℕ) (next : ℕ) : Type 0 w
   pub bytes : after ≡ take at output ++ in-front text (drop at output)
   pub count : next ≡ min (at + length text) (length output)
   pub whole : length after ≡ length output
+
+-- a slice that is lent: as it was, and as it came back
+abbrev pub Slice : Type 0
+Slice = Both (RefT (List ℕ)) (RefT (List ℕ))
+
+abbrev pub Puts : ℕ → List ℕ → Slice → ℕ → Type 0
+Puts at text output next = Put at text (now (output .entry)) (now (output .exit)) next
+
+-- as much of a text as fits stands in front of the output: n bytes
+abbrev pub Shows : List ℕ → Slice → ℕ → Type 0
+Shows text output n = (n ≡ fitting text (now (output .entry))) × (now (output .exit) ≡ in-front text (now (output .entry)))

@@ -6,15 +6,13 @@ ghost use Prim.Native.Nat.{_<_, _≤_};
 ghost use lib.ListN.{length};
 ghost use Rattle.rules.specs.Program.{digit, upper-hex, line, response-in, answer-line, lines, printed};
 ghost use Rattle.rules.specs.Hex.{ascii};
-ghost use Rattle.listing.specs.Text.{in-front, fitting, Put};
-ghost use Rattle.listing.specs.Line.{after};
+ghost use Rattle.listing.specs.Text.{Puts, Shows};
+ghost use Rattle.listing.specs.Line.{after, Leaves};
 
 // The most bytes of a list.
 const LONGEST: usize = 16384;
 
-// The bytes of the factory store, and of the room of a response.
-const STORE: usize = 6024;
-
+// The bytes of the room of a response.
 const ROOM: usize = 1504;
 
 // The length that leads a command.
@@ -43,7 +41,7 @@ fn digit(n: u8) -> u8
 // Puts a byte at a place of the output, if it fits, and answers the place past it.
 fn put_byte(output: &mut [u8], at: usize, byte: u8) -> usize
     requires { ⌜ at ≤ length (now output) ⌝ }
-    ensures { λ r. ⌜ Put at (byte ∷ []) (now (output .entry)) (now (output .exit)) r ⌝ }
+    ensures { λ r. ⌜ Puts at (byte ∷ []) output r ⌝ }
 {
     if at < output.len() {
         output[at] = byte;
@@ -55,9 +53,9 @@ fn put_byte(output: &mut [u8], at: usize, byte: u8) -> usize
 // Puts as much of a text as fits.
 fn put_text(output: &mut [u8], at: usize, text: &[u8]) -> usize
     requires { ⌜ at ≤ length (now output) ⌝ }
-    ensures { λ r. ⌜ Put at (now (text .entry)) (now (output .entry)) (now (output .exit)) r ⌝ }
+    ensures { λ r. ⌜ Puts at (now (text .entry)) output r ⌝ }
 {
-    let n = primitives::smaller(output.len() - at, text.len());
+    let n = primitives::min(output.len() - at, text.len());
     primitives::put(output, at, &text[..n]);
     at + n
 }
@@ -65,7 +63,7 @@ fn put_text(output: &mut [u8], at: usize, text: &[u8]) -> usize
 // The two digits of a byte, and those of each of some bytes.
 fn put_pair(output: &mut [u8], at: usize, byte: u8) -> usize
     requires { ⌜ at ≤ length (now output) ⌝ }
-    ensures { λ r. ⌜ Put at (upper-hex (byte ∷ [])) (now (output .entry)) (now (output .exit)) r ⌝ }
+    ensures { λ r. ⌜ Puts at (upper-hex (byte ∷ [])) output r ⌝ }
 {
     let next = put_byte(output, at, digit(byte / 16));
     put_byte(output, next, digit(byte % 16))
@@ -73,7 +71,7 @@ fn put_pair(output: &mut [u8], at: usize, byte: u8) -> usize
 
 fn put_hex(output: &mut [u8], at: usize, bytes: &[u8]) -> usize
     requires { ⌜ at ≤ length (now output) ⌝ }
-    ensures { λ r. ⌜ Put at (upper-hex (now (bytes .entry))) (now (output .entry)) (now (output .exit)) r ⌝ }
+    ensures { λ r. ⌜ Puts at (upper-hex (now (bytes .entry))) output r ⌝ }
 {
     let mut next = at;
     let mut i = 0;
@@ -87,10 +85,10 @@ fn put_hex(output: &mut [u8], at: usize, bytes: &[u8]) -> usize
 // The response at the front of a room.
 fn put_response(output: &mut [u8], at: usize, room: &[u8]) -> usize
     requires { ⌜ (at ≤ length (now output)) × (4 ≤ length (now room)) ⌝ }
-    ensures { λ r. ⌜ Put at (upper-hex (response-in (now (room .entry)))) (now (output .entry)) (now (output .exit)) r ⌝ }
+    ensures { λ r. ⌜ Puts at (upper-hex (response-in (now (room .entry)))) output r ⌝ }
 {
-    let size = HEADER + primitives::high_at(room, 2) as usize;
-    let end = primitives::smaller(size, room.len());
+    let size = HEADER + primitives::big_endian_at(room, 2) as usize;
+    let end = primitives::min(size, room.len());
     put_hex(output, at, &room[..end])
 }
 
@@ -103,8 +101,8 @@ fn put_line(
     session: Session,
 ) -> Line
     requires { ⌜ at ≤ length (now output) ⌝ }
-    ensures line { λ r. ⌜ Put at (answer-line (after (now (command .entry)) (now (store .entry)) session)) (now (output .entry)) (now (output .exit)) (r .next) ⌝ }
-    ensures left { λ r. ⌜ (now (store .exit) ≡ after (now (command .entry)) (now (store .entry)) session .store) × (r .session ≡ after (now (command .entry)) (now (store .entry)) session .session) ⌝ }
+    ensures line { λ r. ⌜ Puts at (answer-line (after (now (command .entry)) (now (store .entry)) session)) output (r .next) ⌝ }
+    ensures left { λ r. ⌜ Leaves (after (now (command .entry)) (now (store .entry)) session) store (r .session) ⌝ }
 {
     let mut room = [0u8; ROOM];
     let answer = element::execute(command, store, session, &mut room);
@@ -119,14 +117,14 @@ fn put_line(
 // The line for a length or a command cut short.
 fn put_cut(output: &mut [u8], at: usize) -> usize
     requires { ⌜ at ≤ length (now output) ⌝ }
-    ensures { λ r. ⌜ Put at (line (ascii "cut")) (now (output .entry)) (now (output .exit)) r ⌝ }
+    ensures { λ r. ⌜ Puts at (line (ascii "cut")) output r ⌝ }
 {
     put_text(output, at, b"cut\n")
 }
 
 // A line for each command, each on what the one before left; a length or command cut short ends the run.
 fn put_lines(output: &mut [u8], input: &[u8], store: &mut [u8], first: Session) -> usize
-    ensures { λ r. ⌜ Put 0 (lines (length (now (input .entry))) (now (input .entry)) (now (store .entry)) first) (now (output .entry)) (now (output .exit)) r ⌝ }
+    ensures { λ r. ⌜ Puts 0 (lines (length (now (input .entry))) (now (input .entry)) (now (store .entry)) first) output r ⌝ }
 {
     let mut session = first;
     let mut next: usize = 0;
@@ -136,7 +134,7 @@ fn put_lines(output: &mut [u8], input: &[u8], store: &mut [u8], first: Session) 
         if left < LENGTH {
             return put_cut(output, next);
         }
-        let size = primitives::high_at(input, at) as usize;
+        let size = primitives::big_endian_at(input, at) as usize;
         let from = at + LENGTH;
         if left - LENGTH < size {
             return put_cut(output, next);
@@ -152,12 +150,12 @@ fn put_lines(output: &mut [u8], input: &[u8], store: &mut [u8], first: Session) 
 
 // Puts what the program prints for its input at the front of the output, as much as fits, and answers how many bytes that is.
 pub fn print_all(input: &[u8], output: &mut [u8]) -> usize
-    ensures { λ r. ⌜ (r ≡ fitting (printed (now (input .entry))) (now (output .entry))) × (now (output .exit) ≡ in-front (printed (now (input .entry))) (now (output .entry))) ⌝ }
+    ensures { λ r. ⌜ Shows (printed (now (input .entry))) output r ⌝ }
 {
     if LONGEST < input.len() {
         return put_text(output, 0, b"too long\n");
     }
-    let mut store = [0u8; STORE];
+    let mut store = [0u8; factory::STORE];
     factory::make_factory_store(&mut store);
     put_lines(output, input, &mut store, factory::fresh_session())
 }

@@ -6,7 +6,7 @@ use native.Mathlib.Omega.{arith}
 use lib.ListN.{length, length-append}
 use Rattle.rules.specs.declared.Slot.{Slot}
 use Rattle.rules.specs.declared.Slot.the-variants.{Change, Read, Execute}
-use Rattle.rules.specs.Basic.{high-first}
+use Rattle.rules.specs.Basic.{big-endian}
 use Rattle.rules.specs.Expression.{expression-bytes}
 use Rattle.rules.specs.Object.{Object, used, expression-in}
 use Rattle.rules.specs.Layout.{slot-size}
@@ -14,8 +14,8 @@ use Rattle.rules.specs.Metadata.{Field, field, fields-bytes, object-fields, led
 use Rattle.rules.specs.Response.{put-in-front, done-response}
 use Rattle.primitives.specs.Bytes.{over}
 use Rattle.primitives.proofs.Over.{over-over}
-use Rattle.store.specs.Places.{object-at, Stored}
-use Rattle.store.proofs.Placing.{slot-expression}
+use Rattle.record.specs.Places.{object-at, Stored}
+use Rattle.record.proofs.Parts.{slot-expression}
 use Rattle.change.proofs.Results as results
 use Rattle.response.specs.Begun.{begun}
 use Rattle.response.proofs.Begun.{begun-head, begun-more, begun-done}
@@ -81,7 +81,7 @@ unfolding sizes fields-bytes state-and-sizes field
 sizes-length o = refl
 
 fields-are : (o : Object) → fields-bytes (object-fields o) ≡ ((sizes o ++ bytes Change o) ++ bytes Read o) ++ bytes Execute o
-unfolding object-fields state-and-sizes slot-field slot-tag expression-in sizes
+unfolding object-fields state-and-sizes slot-field expression-in sizes
 fields-are o =
     fields-append (((state-and-sizes o ++ (slot-field Change o ∷ [])) ++ (slot-field Read o ∷ []))) (slot-field Execute o ∷ []) ∙
     ap (λ x. x ++ bytes Execute o)
@@ -123,7 +123,7 @@ module _ (o : Object) (n : ℕ) (sized : Sized o n) where
 
   pub answer-put : (second third : ℕ) (xs q0 q1 q2 q3 r : List ℕ) → 4 + length (metadata o) ≤ length xs →
       second ≡ 17 + length (bytes Change o) → third ≡ second + length (bytes Read o) →
-      q0 ≡ over 0 (0 ∷ 0 ∷ high-first n) xs →
+      q0 ≡ over 0 (0 ∷ 0 ∷ big-endian n) xs →
       q1 ≡ over 4 (0x20 ∷ (n - 2) ∷ fields-bytes (state-and-sizes o)) q0 →
       q2 ≡ over 17 (bytes Change o) q1 →
       q3 ≡ over second (bytes Read o) q2 →

@@ -30,8 +30,7 @@ pub record Cut (at : ℕ) (m : List ℕ) : Type 0 where
   pub too-few : at + 2 ≤ length m → length m < at + 2 + getD m (at + 1) 0
 
 pub two : (s : List ℕ) (i : ℕ) → i + 2 ≤ length s → drop i s ≡ getD s i 0 ∷ getD s (i + 1) 0 ∷ drop (i + 2) s
-two s i h =
-    rw (drop-cons s i 0 (omega arith), ← add-one i, drop-cons s (i + 1) 0 (omega arith), ← add-one (i + 1), add-assoc i 1 1)
+two s i h = rw (drop-cons s i 0 (omega arith), ← add-one i, drop-cons s (i + 1) 0 (omega arith), ← add-one (i + 1), add-assoc i 1 1)
 
 -- the first of fields is what stands where their bytes begin
 pub stands : (k : ℕ) (m : List ℕ) (f : rules.Field) (fs : List rules.Field) → drop k m ≡ fields-bytes (f ∷ fs) →
@@ -43,13 +42,7 @@ stands k m f fs b =
     let z : k + 0 ≡ k = omega arith in
     let t : getD m k 0 ≡ f .tag = rw (← z, ← getD-drop k m 0 0, b) in
     let l : getD m (k + 1) 0 ≡ length (f .value) = rw (← getD-drop k m 1 0, b) in
-    rw (
-      lt-leb (length m) k (omega arith),
-      le-ltb (length m - k) 2 (omega arith),
-      le-ltb (length m - k - 2) (getD m (k + 1) 0) (omega arith),
-      t,
-      l,
-    )
+    rw (lt-leb (length m) k (omega arith), le-ltb (length m - k) 2 (omega arith), le-ltb (length m - k - 2) (getD m (k + 1) 0) (omega arith), t, l)
 
 module _ (at : ℕ) (m : List ℕ) where
   told : Bool → Bool → Bool → Next

@@ -30,8 +30,7 @@ filled zero lcso t [] = true
 filled zero lcso t (x ∷ b) = false
 filled (suc n) lcso t [] = true
 filled (suc n) lcso t (u ∷ []) = false
-filled (suc n) lcso t (u ∷ l ∷ b) =
-    leb l (length b) && (ltb t u && (field-allowed lcso (field u (take l b)) && filled n lcso u (drop l b)))
+filled (suc n) lcso t (u ∷ l ∷ b) = leb l (length b) && (ltb t u && (field-allowed lcso (field u (take l b)) && filled n lcso u (drop l b)))
 
 -- more is allowed than the bytes can be
 filled-enough : (n k lcso t : ℕ) (b : List ℕ) → length b ≤ n → length b ≤ k → filled n lcso t b ≡ filled k lcso t b
@@ -168,8 +167,7 @@ its-tag lcso f h = go (eqb (f .tag) 0xC0) (eqb (f .tag) 0xD0) (eqb (f .tag) 0xD1
 
 -- how many of them are above t
 above : ℕ → ℕ
-above t =
-    (if ltb t 0xC0 then 1 else 0) + (if ltb t 0xD0 then 1 else 0) + (if ltb t 0xD1 then 1 else 0) + (if ltb t 0xD3 then 1 else 0)
+above t = (if ltb t 0xC0 then 1 else 0) + (if ltb t 0xD0 then 1 else 0) + (if ltb t 0xD1 then 1 else 0) + (if ltb t 0xD3 then 1 else 0)
 
 above-less : (t u : ℕ) → Tag u → t < u → above u + 1 ≤ above t
 unfolding above

@@ -20,11 +20,11 @@ use Rattle.rules.specs.Metadata.{Field, field, fields-bytes, led-by-20, sent-fi
 use Rattle.rules.specs.Metadata.{value-of, sent-state, sent-expression, with-fields}
 use Rattle.rules.proofs.Tests.{and-left, and-right, at-place}
 use Rattle.rules.proofs.Expressions.{expression-back}
-use Rattle.store.specs.Places.{object-at, Stored, with-record}
-use Rattle.store.specs.Records.{part}
+use Rattle.record.specs.Places.{object-at, Stored, with-record}
+use Rattle.record.specs.Records.{part}
 use Rattle.change.specs.Change.{with-lcso, with-expressions, with-expression}
 use Rattle.change.proofs.Records.{read-allowed}
-use Rattle.change.proofs.Left.{Left, left-start, left-length, left-stored, left-lcso, left-expression}
+use Rattle.change.proofs.Rewritten.{Rewritten, left-start, left-length, left-stored, left-lcso, left-expression}
 use Rattle.metadata.specs.declared.Next.{Next}
 use Rattle.metadata.specs.declared.Next.the-variants as next
 use Rattle.metadata.specs.Content.{field-at, place-after, tag-slot}
@@ -61,8 +61,7 @@ module _ (t : ℕ) (v : List ℕ) (h : field-allowed 0 (field t v) ≡ true) whe
 
   pub state-sound : t ≡ 0xC0 → is-state (getD v 0 0) ≡ true
   unfolding may-become
-  state-sound e =
-      and-left (is-state (getD v 0 0)) (leb 0 (getD v 0 0)) (and-right (eqb (length v) 1) (may-become 0 (getD v 0 0)) (state-field e))
+  state-sound e = and-left (is-state (getD v 0 0)) (leb 0 (getD v 0 0)) (and-right (eqb (length v) 1) (may-become 0 (getD v 0 0)) (state-field e))
 
   pub expression-sound : (t ≡ 0xC0 → ⊥) → is-some (expression v) ≡ true
   unfolding field-allowed field
@@ -99,11 +98,11 @@ module _ (t : ℕ) (v : List ℕ) (h : field-allowed 0 (field t v) ≡ true) whe
     expression-stored s n e f = f ∙ (λ i. with-record p (with-expression (e i) (read-expression v) (object-at p b)) b) ∙ ap (λ o. with-record p o b) (expression-object (object-at p b) n)
 
   -- one field more is stored
-  left-field : (p : ℕ) (b : List ℕ) (o : Object) (b1 b2 : List ℕ) → Left p b o b1 →
-      b2 ≡ with-record p (with-fields (field t v ∷ []) (object-at p b1)) b1 → Left p b (with-fields (field t v ∷ []) o) b2
+  left-field : (p : ℕ) (b : List ℕ) (o : Object) (b1 b2 : List ℕ) → Rewritten p b o b1 →
+      b2 ≡ with-record p (with-fields (field t v ∷ []) (object-at p b1)) b1 → Rewritten p b (with-fields (field t v ∷ []) o) b2
   left-field p b o b1 b2 l f = go (eqb t 0xC0) refl
     where
-      go : (u : Bool) → eqb t 0xC0 ≡ u → Left p b (with-fields (field t v ∷ []) o) b2
+      go : (u : Bool) → eqb t 0xC0 ≡ u → Rewritten p b (with-fields (field t v ∷ []) o) b2
       go true e =
           let k = eqb-true t 0xC0 e in
           rw (← state-object o k)
@@ -144,6 +143,7 @@ module _ (f : Field) (fs : List Field) (h : rising (tags (f ∷ fs)) ≡ true) w
       let expressions = in-turn sent-expression (λ x. unfold sent-expression in refl) in
       λ i. record {
         number = o .number;
+        kind = o .kind;
         maximum = o .maximum;
         lcso = states 0xC0 (o .lcso) i;
         change = expressions 0xD0 (o .change) i;
@@ -195,7 +195,7 @@ none-left r k m (f ∷ fs) o e b = absurd (go (rw (e ∙ stands k m f fs b) at o
 pub record Going (p k : ℕ) (m b b1 : List ℕ) : Type 0 where
   lcso : ℕ
   object : Object
-  left : Left p b object b1
+  left : Rewritten p b object b1
   rest : List Field
   bytes : drop k m ≡ fields-bytes rest
   rise : rising (tags rest) ≡ true

@@ -5,8 +5,10 @@ use lib.Dec.{eqb, ltb, leb}
 use lib.ListN.{length, getD}
 use denote.Ref.{now}
 use Rattle.rules.specs.Basic.{if_then_else_}
+use Rattle.rules.specs.Metadata.{Field as Sent, with-fields}
 use Rattle.rules.specs.declared.Slot.{Slot}
 use Rattle.rules.specs.declared.Slot.the-variants.{Change, Read, Execute}
+use Rattle.record.specs.Places.{object-at, with-record}
 use Rattle.metadata.specs.declared.MetadataReader.{MetadataReader}
 use Rattle.metadata.specs.declared.Next.{Next}
 use Rattle.metadata.specs.declared.Next.the-variants.{Field, End, Broken}
@@ -29,9 +31,16 @@ end-of Broken at = at
 unfoldable pub place-after : ℕ → List ℕ → ℕ
 place-after at m = end-of (field-at at m) at
 
--- a reader that has gone past what it stood at
+-- what a reader stands at, and the reader that has gone past it
+abbrev pub next-field : MetadataReader → Next
+next-field r = field-at (r .at) (now (r .content))
+
 abbrev pub advanced : MetadataReader → MetadataReader
 advanced r = record { content = r .content; at = place-after (r .at) (now (r .content)) }
+
+-- a store in which the object at a place has these fields in place of its own
+abbrev pub stored-fields : ℕ → List Sent → List ℕ → List ℕ
+stored-fields at fields store = with-record at (with-fields fields (object-at at store)) store
 
 -- the slot of an expression's tag
 unfoldable pub tag-slot : ℕ → Slot

@@ -4,20 +4,20 @@ use rules::Slot;
 ghost use mathlib.Core.Path.{_≡_};
 ghost use mathlib.Core.Bool.{true};
 ghost use mathlib.Core.List.{[], _∷_};
-ghost use Prim.Native.Nat.{_+_, _-_, _≤_, _<_};
+ghost use Prim.Native.Nat.{_+_, _≤_, _<_};
 ghost use lib.ListN.{length};
 ghost use Rattle.rules.specs.Basic.{among};
-ghost use Rattle.rules.specs.Metadata.{field, field-allowed, metadata-allowed, sent-fields, with-fields};
+ghost use Rattle.rules.specs.Metadata.{field, field-allowed, metadata-allowed, sent-fields};
 ghost use Rattle.rules.specs.Metadata.{fields-bytes, metadata};
 ghost use Rattle.rules.specs.Expression.{expression-bytes};
 ghost use Rattle.rules.specs.Object.{expression-in};
 ghost use Rattle.rules.specs.Layout.{slot-size};
 ghost use Rattle.rules.specs.Response.{done-response, put-in-front};
 ghost use Rattle.primitives.specs.Bytes.{over};
-ghost use Rattle.store.specs.Places.{object-at, Stored, with-record};
-ghost use Rattle.store.specs.Records.{part};
-ghost use Rattle.metadata.specs.Content.{field-at, place-after, advanced, tag-slot};
-ghost use Rattle.metadata.specs.Answer.{state-and-sizes, slot-tag, slot-field, Sized};
+ghost use Rattle.record.specs.Places.{object-at, Stored};
+ghost use Rattle.record.specs.Records.{part};
+ghost use Rattle.metadata.specs.Content.{field-at, place-after, next-field, advanced, stored-fields, tag-slot};
+ghost use Rattle.metadata.specs.Answer.{front-bytes, slot-tag, slot-field, Sized};
 
 // What stands at a position of the content: a field whose value is content[start..end], the end, or what is no field.
 pub enum Next {
@@ -98,7 +98,7 @@ pub fn reader_at<'a>(content: &'a [u8], at: usize) -> MetadataReader<'a>
 
 // What the reader stands at; the reader goes past a field.
 pub fn advance<'s, 'a>(reader: &'s mut MetadataReader<'a>) -> Next
-    ensures { λ r. ⌜ (r ≡ field-at (now (reader .entry) .at) (now (now (reader .entry) .content))) × (now (reader .exit) ≡ advanced (now (reader .entry))) ⌝ }
+    ensures { λ r. ⌜ (r ≡ next-field (now (reader .entry))) × (now (reader .exit) ≡ advanced (now (reader .entry))) ⌝ }
 {
     let content = reader.content;
     let at = reader.at;
@@ -202,7 +202,7 @@ fn slot_of(tag: u8) -> Slot
 fn store_field(store: &mut [u8], at: usize, content: &[u8], tag: u8, start: usize, end: usize)
     requires { ⌜ Stored at (now store) × (start ≤ end) × (end ≤ length (now content))
         × (field-allowed 0 (field tag (part (now content) start end)) ≡ true) ⌝ }
-    ensures { λ _. ⌜ now (store .exit) ≡ with-record at (with-fields (field tag (part (now (content .entry)) start end) ∷ []) (object-at at (now (store .entry)))) (now (store .entry)) ⌝ }
+    ensures { λ _. ⌜ now (store .exit) ≡ stored-fields at (field tag (part (now (content .entry)) start end) ∷ []) (now (store .entry)) ⌝ }
 {
     let value = &content[start..end];
     if tag == STATE_TAG {
@@ -215,7 +215,7 @@ fn store_field(store: &mut [u8], at: usize, content: &[u8], tag: u8, start: usiz
 // Stores all fields of content that is allowed.
 pub fn store_content(store: &mut [u8], at: usize, content: &[u8])
     requires { ⌜ Stored at (now store) × (metadata-allowed (object-at at (now store) .lcso) (now content) ≡ true) ⌝ }
-    ensures { λ _. ⌜ now (store .exit) ≡ with-record at (with-fields (sent-fields (now (content .entry))) (object-at at (now (store .entry)))) (now (store .entry)) ⌝ }
+    ensures { λ _. ⌜ now (store .exit) ≡ stored-fields at (sent-fields (now (content .entry))) (now (store .entry)) ⌝ }
 {
     let mut place: usize = 2;
     loop {
@@ -244,7 +244,7 @@ fn expression_length(store: &[u8], at: usize, slot: Slot) -> usize
     requires { ⌜ Stored at (now store) ⌝ }
     ensures { λ r. ⌜ (r ≡ length (expression-bytes (expression-in slot (object-at at (now (store .entry)))))) × (r < slot-size) ⌝ }
 {
-    let part = store::slot_part(store, at, slot);
+    let part = record::slot_part(store, at, slot);
     part.len()
 }
 
@@ -280,12 +280,12 @@ fn tag_of(slot: Slot) -> u8
 // 20 and L, then the fields C0, C4 and C5.
 fn put_sizes(store: &[u8], at: usize, size: usize, room: &mut [u8])
     requires { ⌜ Stored at (now store) × (2 ≤ size) × (size ≤ 257) × (17 ≤ length (now room)) ⌝ }
-    ensures { λ _. ⌜ now (room .exit) ≡ over 4 (0x20 ∷ (size - 2) ∷ fields-bytes (state-and-sizes (object-at at (now (store .entry))))) (now (room .entry)) ⌝ }
+    ensures { λ _. ⌜ now (room .exit) ≡ over 4 (front-bytes size (object-at at (now (store .entry)))) (now (room .entry)) ⌝ }
 {
     let l = (size - 2) as u8;
-    let state = store::lcso_at(store, at);
-    let maximum = store::maximum_at(store, at).0;
-    let used = store::used_at(store, at).0;
+    let state = record::lcso_at(store, at);
+    let maximum = record::maximum_at(store, at).0;
+    let used = record::used_at(store, at).0;
     let bytes = [
         0x20,
         l,
@@ -323,7 +323,7 @@ fn put_expression(store: &[u8], at: usize, slot: Slot, room: &mut [u8], place: u
     ensures { λ r. ⌜ (now (room .exit) ≡ over place (fields-bytes (slot-field slot (object-at at (now (store .entry))) ∷ [])) (now (room .entry)))
         × (r ≡ place + length (fields-bytes (slot-field slot (object-at at (now (store .entry))) ∷ []))) ⌝ }
 {
-    let value = store::slot_part(store, at, slot);
+    let value = record::slot_part(store, at, slot);
     put_field(room, place, tag_of(slot), value)
 }
 

@@ -4,13 +4,13 @@ ghost use mathlib.Core.List.{_++_};
 ghost use mathlib.Core.Bool.{_&&_, _||_};
 ghost use Prim.Native.Nat.{_+_, _<_, _≤_, min, max};
 ghost use lib.ListN.{length, drop};
-ghost use Rattle.rules.specs.Basic.{low-at, high-at, zeros};
+ghost use Rattle.rules.specs.Basic.{little-endian-at, big-endian-at, zeros};
 ghost use Rattle.primitives.specs.Bytes.{over, all-zero};
 
 // The number in two bytes, least significant first.
-pub fn low_at(s: &[u8], at: usize) -> u16
+pub fn little_endian_at(s: &[u8], at: usize) -> u16
     requires { ⌜ at + 1 < length (now s) ⌝ }
-    ensures { λ r. ⌜ r ≡ low-at at (now (s .entry)) ⌝ }
+    ensures { λ r. ⌜ r ≡ little-endian-at at (now (s .entry)) ⌝ }
 {
     let low = s[at] as u16;
     let high = s[at + 1] as u16;
@@ -18,16 +18,16 @@ pub fn low_at(s: &[u8], at: usize) -> u16
 }
 
 // The number in two bytes, most significant first.
-pub fn high_at(s: &[u8], at: usize) -> u16
+pub fn big_endian_at(s: &[u8], at: usize) -> u16
     requires { ⌜ at + 1 < length (now s) ⌝ }
-    ensures { λ r. ⌜ r ≡ high-at at (now (s .entry)) ⌝ }
+    ensures { λ r. ⌜ r ≡ big-endian-at at (now (s .entry)) ⌝ }
 {
     let high = s[at] as u16;
     let low = s[at + 1] as u16;
     256 * high + low
 }
 
-pub fn larger(a: usize, b: usize) -> usize
+pub fn max(a: usize, b: usize) -> usize
     ensures { λ r. ⌜ r ≡ max a b ⌝ }
 {
     if a < b {
@@ -36,7 +36,7 @@ pub fn larger(a: usize, b: usize) -> usize
     a
 }
 
-pub fn smaller(a: usize, b: usize) -> usize
+pub fn min(a: usize, b: usize) -> usize
     ensures { λ r. ⌜ r ≡ min a b ⌝ }
 {
     if a < b {
@@ -86,7 +86,7 @@ pub fn put_zeros(dst: &mut [u8], at: usize, n: usize)
     clear(&mut dst[at..e]);
 }
 
-pub fn both(a: bool, b: bool) -> bool
+pub fn and(a: bool, b: bool) -> bool
     ensures { λ r. ⌜ r ≡ (a && b) ⌝ }
 {
     if a {
@@ -95,7 +95,7 @@ pub fn both(a: bool, b: bool) -> bool
     false
 }
 
-pub fn either(a: bool, b: bool) -> bool
+pub fn or(a: bool, b: bool) -> bool
     ensures { λ r. ⌜ r ≡ (a || b) ⌝ }
 {
     if a {

@@ -4,7 +4,7 @@ ghost use mathlib.Core.Path.{_≡_};
 ghost use mathlib.Core.List.{[], _∷_};
 ghost use Prim.Native.Nat.{_+_, _<_, _≤_};
 ghost use lib.ListN.{length};
-ghost use Rattle.rules.specs.Basic.{high-first};
+ghost use Rattle.rules.specs.Basic.{big-endian};
 ghost use Rattle.rules.specs.Response.{put-in-front, done-response, refused-response};
 ghost use Rattle.primitives.specs.Bytes.{over};
 
@@ -20,7 +20,7 @@ pub fn refuse(room: &mut [u8])
 // Status 00 and OutLen; the answer's bytes are put right behind them.
 pub fn head(room: &mut [u8], answer: Length)
     requires { ⌜ (4 ≤ length (now room)) × (answer .0 < 65536) ⌝ }
-    ensures { λ _. ⌜ now (room .exit) ≡ over 0 (0 ∷ 0 ∷ high-first (answer .0)) (now (room .entry)) ⌝ }
+    ensures { λ _. ⌜ now (room .exit) ≡ over 0 (0 ∷ 0 ∷ big-endian (answer .0)) (now (room .entry)) ⌝ }
 {
     let n = answer.0;
     let bytes = [0, 0, (n / 256) as u8, (n % 256) as u8];

@@ -4,19 +4,21 @@ use mathlib.Core.Bool.{Bool, true}
 use mathlib.Core.List.{List}
 use Rattle.mixing.specs.Runs.{answers, end}
 use mathlib.Core.Path.{_≡_, refl}
-use Rattle.rules.specs.Basic.{all, among, same, rising-from, rising, low-at}
+use Rattle.rules.specs.Basic.{all, among, same, rising-from, rising, little-endian-at}
 use Rattle.rules.specs.Hex.{ascii, digits, pairs, hex}
-use Rattle.rules.specs.Command.{asks-flush, cmd, param, in-length, in-data, known-cmd, row-of, row, is-unknown, length-right, identifier, names-object, object-number, offset, asked-length, sent-data, sent-metadata}
-use Rattle.rules.specs.Response.{code, done-response, refused-response, put-in-front}
-use Rattle.rules.specs.Expression.{is-state, may-become, condition-bytes, group-bytes, groups-bytes, expression-bytes, condition-allowed, group-allowed, groups-allowed, group-size, conditions, groups, expression-allowed, in-first, read-groups, read-expression, expression, present, condition-holds, group-holds, groups-hold, holds}
-use Rattle.rules.specs.Object.{in-session, object-allowed, all-allowed}
-use Rattle.rules.specs.Layout.{size, objects-allowed, slot-of, slot, record-bytes, pack, read-slot, read-record, read-records, unpack, find, replaced}
+use Rattle.rules.specs.Command.{asks-flush, cmd, param, in-length, in-data, size-right, identifier, anything, table-line, command-table, known-cmd, no-line, line-in, line-of, row, object-number, offset, asked-length, sent-data, sent-metadata}
+use Rattle.rules.specs.Response.{done-response, refused-response, put-in-front}
+use Rattle.rules.specs.Expression.{is-state, may-become, condition-bytes, group-bytes, groups-bytes, expression-bytes, condition-allowed, group-allowed, groups-allowed, group-size, conditions, groups, expression-allowed-with, in-first, read-groups, read-expression, expression-with}
+use Rattle.rules.specs.Object.{kind-number, read-kind, is, of-session, data-allowed, in-session, object-allowed-with, all-allowed-with, with-content}
+use Rattle.rules.specs.Layout.{read-slot, size-with, objects-allowed-with, slot-of-with, record-bytes-with, pack-with, read-record-with, read-records-with, unpack-with, find, replaced}
 use Rattle.rules.specs.Factory.{entry, table, before-operational, made, factory-objects, factory-store, fresh-session, factory-outcome, factory-made}
-use Rattle.rules.specs.Session.{session-object, session-objects, with-opened, with-error, with-state}
+use Rattle.rules.specs.Session.{with-opened, with-lcsg, with-lcsa, with-error, with-state, session-change, session-object, session-objects}
+use Rattle.rules.specs.Access.{seen, named, present, condition-holds, group-holds, groups-hold, holds, asked, granted}
 use Rattle.rules.specs.Metadata.{field, fields-bytes, object-fields, led-by-20, metadata, read-fields, sent-fields, field-allowed, fields-allowed, metadata-allowed, value-of, sent-state, sent-expression, with-fields}
-use Rattle.rules.specs.Operation.{with-content, put-at, getting, getting-metadata, writing, setting-metadata, setting-session, operation, named, no-object, requested}
-use Rattle.rules.specs.Refusals.{_refused_or_, unsound, ill-sized, unknown-cmd, unusable, unknown-param, wrong-length, other-identifier, no-such-object, early, late, late-of, from-nine, _and-then_, verdict}
-use Rattle.rules.specs.Step.{raised, declined, stored, performed, answered, judged, flushed, unanswered, step}
+use Rattle.rules.specs.Chain.{_refused_or_, _and-then_}
+use Rattle.rules.specs.Operation.{getting, getting-metadata, put-at, value-allowed, writing, setting-metadata, operation, setting-session}
+use Rattle.rules.specs.Refusals.{unsound, ill-sized, unknown-cmd, unusable, unknown-param, wrong-length, wrong-content, early, ruling-on, ruling-of, ruling, fitting, late, verdict}
+use Rattle.rules.specs.Step.{raised, declined, replacing, performed, answered, judged, flushed, unanswered, step}
 use Rattle.rules.specs.Program.{digit, upper-hex, line, response-in, answer-line, lines, printed}
 use Rattle.rules.specs.Run.{reply, left, run}
 use Rattle.rules.specs.Demand.{reads-or-writes, object-of}
@@ -27,7 +29,7 @@ use Rattle.rules.specs.Sentences.{command-cases, form-cases, row-cases, 
 
 -- `unfolding computed` opens every rule
 computed : List Case → Bool
-unfolding all among same rising-from rising low-at ascii digits pairs hex asks-flush cmd param in-length in-data known-cmd row-of row is-unknown length-right identifier names-object object-number offset asked-length sent-data sent-metadata code done-response refused-response put-in-front is-state may-become condition-bytes group-bytes groups-bytes expression-bytes condition-allowed group-allowed groups-allowed group-size conditions groups expression-allowed in-first read-groups read-expression expression present condition-holds group-holds groups-hold holds in-session object-allowed all-allowed size objects-allowed slot-of slot record-bytes pack read-slot read-record read-records unpack find replaced entry table before-operational made factory-objects factory-store fresh-session factory-outcome factory-made session-object session-objects with-opened with-error with-state field fields-bytes object-fields led-by-20 metadata read-fields sent-fields field-allowed fields-allowed metadata-allowed value-of sent-state sent-expression with-fields with-content put-at getting getting-metadata writing setting-metadata setting-session operation named no-object requested _refused_or_ unsound ill-sized unknown-cmd unusable unknown-param wrong-length other-identifier no-such-object early late late-of from-nine _and-then_ verdict raised declined stored performed answered judged flushed unanswered step digit upper-hex line response-in answer-line lines printed answers end reply left run reads-or-writes object-of same-session _gives_ _refused_leaving_ unanswered-in in-room room-of done-empty responds as-expected talk-right store-after turn told same-replies same-number run-right right all-right open-command factory-metadata cases more-cases slip-cases padded by-hand first-record second-record third-record three large smallest largest many factory-140 factory-1500 factory-by-hand first-metadata second-metadata text-line command-cases form-cases row-cases object-cases expression-cases store-cases size-cases factory-cases session-cases data-cases metadata-cases run-cases program-cases
+unfolding all among same rising-from rising little-endian-at ascii digits pairs hex asks-flush cmd param in-length in-data size-right identifier anything table-line command-table known-cmd no-line line-in line-of row object-number offset asked-length sent-data sent-metadata done-response refused-response put-in-front is-state may-become condition-bytes group-bytes groups-bytes expression-bytes condition-allowed group-allowed groups-allowed group-size conditions groups expression-allowed-with in-first read-groups read-expression expression-with kind-number read-kind is of-session data-allowed in-session object-allowed-with all-allowed-with with-content read-slot size-with objects-allowed-with slot-of-with record-bytes-with pack-with read-record-with read-records-with unpack-with find replaced entry table before-operational made factory-objects factory-store fresh-session factory-outcome factory-made with-opened with-lcsg with-lcsa with-error with-state session-change session-object session-objects seen named present condition-holds group-holds groups-hold holds asked granted field fields-bytes object-fields led-by-20 metadata read-fields sent-fields field-allowed fields-allowed metadata-allowed value-of sent-state sent-expression with-fields _refused_or_ _and-then_ getting getting-metadata put-at value-allowed writing setting-metadata operation setting-session unsound ill-sized unknown-cmd unusable unknown-param wrong-length wrong-content early ruling-on ruling-of ruling fitting late verdict raised declined replacing performed answered judged flushed unanswered step digit upper-hex line response-in answer-line lines printed answers end reply left run reads-or-writes object-of same-session _gives_ _refused_leaving_ unanswered-in in-room room-of done-empty responds as-expected talk-right store-after turn told same-replies same-number run-right right all-right open-command factory-metadata cases more-cases slip-cases padded by-hand first-record second-record third-record three large smallest largest many factory-140 factory-1500 factory-by-hand first-metadata second-metadata text-line command-cases form-cases row-cases object-cases expression-cases store-cases size-cases factory-cases session-cases data-cases metadata-cases run-cases program-cases
 computed cs = all-right cs
 
 -- P1 to P12

@@ -3,6 +3,7 @@
 use Prim.Native.Nat.{ℕ, _≤_, _<_}
 use mathlib.Core.Bool.{Bool, true, false, false≢true}
 use mathlib.Core.List.{List, []}
+use mathlib.Core.Option.{Option}
 use mathlib.Core.Path.{_≡_, refl, sym, ap, _∙_}
 use native.Mathlib.Omega.{arith}
 use borrow.Author.Tests.{ltb-true, ltb-false, lt-ltb, le-ltb, eqb-true}
@@ -14,19 +15,21 @@ use Rattle.rules.specs.declared.Refusal.the-variants.{InvalidObject, Inv
 use Rattle.rules.specs.declared.Refusal.the-variants.{AccessDenied, BoundaryExceeded, InvalidCommand, NotAvailable, InsufficientBuffer}
 use Rattle.rules.specs.declared.Verdict.{Verdict}
 use Rattle.rules.specs.declared.Verdict.the-variants.{Refused, Accepted}
-use Rattle.rules.specs.Basic.{if_then_else_, among, or-else}
+use Rattle.rules.specs.Basic.{if_then_else_, among, is-some, or-else}
+use Rattle.rules.specs.Command.{row}
 use Rattle.rules.specs.Response.{code, done-response, refused-response, put-in-front}
 use Rattle.rules.specs.Object.{Object}
 use Rattle.rules.specs.Layout.{unpack}
+use Rattle.rules.specs.Access.{seen}
 use Rattle.rules.specs.Operation.{Operation}
-use Rattle.rules.specs.Refusals.{verdict}
+use Rattle.rules.specs.Refusals.{ruling, verdict}
 use Rattle.rules.specs.Step.{After, declined, performed, answered, judged, flushed, unanswered, step}
 use Rattle.rules.specs.Demand.{is-done, is-refused, listed, RefusedWith, SomeRefusal, Answered, no-room, refused, done}
 use Rattle.rules.proofs.Tests.{and-right}
 
 -- every refusal's number is in the list
 pub code-listed : (r : Refusal) → listed (code r) ≡ true
-unfolding listed code among
+unfolding listed among
 code-listed InvalidObject = refl
 code-listed InvalidParam = refl
 code-listed InvalidLength = refl
@@ -40,8 +43,7 @@ code-listed InsufficientBuffer = refl
 
 declined-is : (r : Refusal) (c room store : List ℕ) (s : Session) → RefusedWith r c room store s (declined r room store (flushed c s))
 unfolding declined
-declined-is r c room store s =
-    record { number-listed = code-listed r; outcome = refl; response = refl; store-kept = refl; session-kept = refl }
+declined-is r c room store s = record { number-listed = code-listed r; outcome = refl; response = refl; store-kept = refl; session-kept = refl }
 
 pub declined-refused : (r : Refusal) (room store : List ℕ) (s : Session) → is-refused (declined r room store s) ≡ true
 unfolding declined is-refused put-in-front refused-response
@@ -51,23 +53,30 @@ pub declined-not-done : (r : Refusal) (room store : List ℕ) (s : Session) → 
 unfolding declined is-done put-in-front refused-response
 declined-not-done r room store s = refl
 
-pub performed-done : (p : Operation) (room store : List ℕ) (os : List Object) → is-done (performed p room store os) ≡ true
+pub performed-done : (p : Operation) (room : List ℕ) (os : List Object) → is-done (performed p room os) ≡ true
 unfolding performed is-done put-in-front done-response
-performed-done p room store os = refl
+performed-done p room os = refl
 
 -- a command with room for a status is judged
 pub step-judged : (c room store : List ℕ) (s : Session) → 4 ≤ length room → step c room store s ≡ judged c room store (unpack store) (flushed c s)
 unfolding step
 step-judged c room store s h = rw (le-ltb (length room) 4 h)
 
+-- what a command does with these objects, and what the steps 2 to 13 say of it
+abbrev pub does : List ℕ → Option (List Object) → Session → Operation
+does c objects s = ruling (row c) c (seen (or-else objects []) s) .does
+
+abbrev pub judgment : List ℕ → List ℕ → Option (List Object) → Session → Verdict
+judgment c room objects s = verdict (is-some objects) c (length room) (seen (or-else objects []) s)
+
 judged-answered : (c room store : List ℕ) (s : Session) → 4 ≤ length room →
     Answered c room store s (judged c room store (unpack store) (flushed c s))
 unfolding judged answered
-judged-answered c room store s h = go (verdict c (length room) (unpack store) (flushed c s))
+judged-answered c room store s h = go (judgment c room (unpack store) (flushed c s))
   where
-    go : (v : Verdict) → Answered c room store s (answered v c room store (or-else (unpack store) []) (flushed c s))
+    go : (v : Verdict) → Answered c room store s (answered v (does c (unpack store) (flushed c s)) room store (or-else (unpack store) []) (flushed c s))
     go (Refused r) = refused h r (declined-is r c room store s) (declined-refused r room store (flushed c s))
-    go Accepted = done h (performed-done _ room store (or-else (unpack store) []))
+    go Accepted = done h (performed-done _ room (or-else (unpack store) []))
 
 -- whatever bytes come in as command, store or session, there is an answer
 pub every-command-answered : (c room store : List ℕ) (s : Session) → Answered c room store s (step c room store s)
@@ -91,20 +100,20 @@ unanswered-not-done room store s = refl
 
 -- what is done had room for a status and was accepted
 pub done-judged : (c room store : List ℕ) (s : Session) → is-done (step c room store s) ≡ true →
-    (4 ≤ length room) × (verdict c (length room) (unpack store) (flushed c s) ≡ Accepted)
+    (4 ≤ length room) × (judgment c room (unpack store) (flushed c s) ≡ Accepted)
 unfolding judged answered
 done-judged c room store s h = by-room (ltb (length room) 4) refl
   where
-    by : (v : Verdict) → is-done (answered v c room store (or-else (unpack store) []) (flushed c s)) ≡ true → v ≡ Accepted
+    by : (v : Verdict) → is-done (answered v (does c (unpack store) (flushed c s)) room store (or-else (unpack store) []) (flushed c s)) ≡ true → v ≡ Accepted
     by (Refused r) d = absurd (false≢true (sym (declined-not-done r room store (flushed c s)) ∙ d))
     by Accepted d = refl
 
-    by-room : (t : Bool) → ltb (length room) 4 ≡ t → (4 ≤ length room) × (verdict c (length room) (unpack store) (flushed c s) ≡ Accepted)
+    by-room : (t : Bool) → ltb (length room) 4 ≡ t → (4 ≤ length room) × (judgment c room (unpack store) (flushed c s) ≡ Accepted)
     by-room true e =
         absurd (false≢true (sym (unanswered-not-done room store s) ∙ ap is-done (sym (no-room-changes-nothing c room store s (ltb-true (length room) 4 e))) ∙ h))
     by-room false e =
         let fits = ltb-false (length room) 4 e in
-        (fits, by (verdict c (length room) (unpack store) (flushed c s)) (ap is-done (sym (step-judged c room store s fits)) ∙ h))
+        (fits, by (judgment c room (unpack store) (flushed c s)) (ap is-done (sym (step-judged c room store s fits)) ∙ h))
 
 unanswered-not-refused : (room store : List ℕ) (s : Session) → is-refused (record { outcome = 1; room = room; store = store; session = s }) ≡ true → ⊥
 unfolding is-refused

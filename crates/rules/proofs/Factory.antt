@@ -4,16 +4,16 @@ use mathlib.Core.Option.{some}
 use mathlib.Core.Path.{_≡_, refl, _∙_}
 use lib.ListN.{length}
 use Rattle.rules.specs.Basic.{all, among, rising, rising-from}
-use Rattle.rules.specs.Expression.{is-state, condition-allowed, group-allowed, groups-allowed, group-size, conditions, groups, expression-allowed}
-use Rattle.rules.specs.Object.{in-session, object-allowed, all-allowed}
-use Rattle.rules.specs.Layout.{size, objects-allowed, unpack}
+use Rattle.rules.specs.Expression.{is-state, condition-allowed, group-allowed, groups-allowed, group-size, conditions, groups, expression-allowed-with}
+use Rattle.rules.specs.Object.{data-allowed, in-session, object-allowed-with, all-allowed-with}
+use Rattle.rules.specs.Layout.{size-with, size, objects-allowed-with, objects-allowed, unpack}
 use Rattle.rules.specs.Factory.{entry, table, before-operational, made, factory-objects, factory-store}
 use Rattle.rules.proofs.Inverse.{unpack-pack}
 use Rattle.rules.proofs.Places.{pack-length}
-use Rattle.rules.proofs.Keeps.{each-allowed}
+use Rattle.rules.proofs.Facts.{all-allowed-facts}
 
 pub factory-allowed : objects-allowed factory-objects ≡ true
-unfolding all among rising rising-from is-state condition-allowed group-allowed groups-allowed group-size conditions groups expression-allowed in-session object-allowed all-allowed size objects-allowed entry table before-operational made factory-objects
+unfolding all among rising rising-from is-state condition-allowed group-allowed groups-allowed group-size conditions groups expression-allowed-with data-allowed in-session object-allowed-with all-allowed-with size-with objects-allowed-with entry table before-operational made factory-objects
 factory-allowed = refl
 
 pub factory-sound : unpack factory-store ≡ some factory-objects
@@ -22,7 +22,7 @@ factory-sound = unpack-pack factory-objects factory-allowed
 
 pub factory-length : length factory-store ≡ 6024
 unfolding factory-store
-factory-length = pack-length factory-objects (each-allowed factory-objects factory-allowed) ∙ total
+factory-length = pack-length factory-objects (all-allowed-facts factory-objects factory-allowed .each) ∙ total
   where
     total : size factory-objects ≡ 6024
-    total = unfold size entry table made factory-objects in refl
+    total = unfold size-with entry table made factory-objects in refl

@@ -1,4 +1,5 @@
--- `pack` and `unpack` are inverse: a store is well formed exactly where it is the packing of allowed objects, and of these ones alone.
+-- `pack` and `unpack` are inverse, over the size of a slot: a store is well formed exactly where it is the packing of allowed objects, and of
+-- these ones alone.
 use Prim.Native.Nat.{ℕ, zero, suc, _+_, _*_, _-_, _/_, _%_, _≤_}
 use mathlib.Core.Bool.{true, _&&_}
 use mathlib.Core.List.{List, [], _∷_, _++_, append-assoc}
@@ -6,170 +7,192 @@ use mathlib.Core.Option.{some}
 use mathlib.Core.Path.{_≡_, refl, sym, ap, _∙_}
 use native.Mathlib.Nat.{mod-add-div, not-suc-le-zero, le-of-suc-le-suc}
 use native.Mathlib.Omega.{arith}
-use borrow.Author.Tests.{leb-true}
 use lib.ListN.{length, length-append, length-replicate, take, drop}
 use lib.Seq.{take-at, drop-at, drop-drop}
-use Rattle.rules.specs.Basic.{all, same, zeros, low-at}
-use Rattle.rules.specs.Expression.{Expression, expression-bytes, read-expression, expression-allowed}
-use Rattle.rules.specs.Object.{Object, used, object-allowed, all-allowed}
-use Rattle.rules.specs.Layout.{slot-size, record-size, objects-allowed, slot-of, slot, record-bytes, pack, read-slot, read-record, read-records, unpack}
-use Rattle.rules.proofs.Tests.{chosen, and-left, and-right, at-place, same-refl, same-eq}
-use Rattle.rules.proofs.Expressions.{expression-length, read-bytes}
+use Rattle.rules.specs.Basic.{same, zeros, little-endian-at}
+use Rattle.rules.specs.Expression.{Expression, slot-size, expression-bytes, read-expression, expression-allowed-with, expression-allowed}
+use Rattle.rules.specs.Object.{Object, used, kind-number, read-kind, object-allowed-with, all-allowed-with}
+use Rattle.rules.specs.Layout.{record-size-with, objects-allowed-with, slot-of-with, record-bytes-with, pack-with, read-slot, read-record-with, read-records-with, unpack-with}
+use Rattle.rules.specs.Layout.{slot, record-size, record-bytes, read-record, pack, unpack, objects-allowed}
+use Rattle.rules.proofs.Tests.{chosen, and-left, and-right, same-refl, same-eq}
+use Rattle.rules.proofs.Expressions.{expression-length-with, read-bytes}
+use Rattle.rules.proofs.Facts.{storable, AllowedWith, Allowed, allowed-with, all-allowed-with-facts}
 
 -- one slot ------------------------------------------------------------------------------------------------------------
 
-pub slot-length : (e : Expression) → expression-allowed e ≡ true → length (slot e) ≡ slot-size
-unfolding slot slot-of
-slot-length e h =
-    simp (length-append, length-replicate) (omega (arith, expression-length e h))
+-- past one, two and three parts of n bytes
+module _ (n : ℕ) (a b c d : List ℕ) (ha : length a ≡ n) (hb : length b ≡ n) (hc : length c ≡ n) where
+  pub past-one : drop n (a ++ (b ++ (c ++ d))) ≡ b ++ (c ++ d)
+  past-one = drop-at a (b ++ (c ++ d)) n ha
 
-pub slot-read : (e : Expression) (r : List ℕ) → read-slot (slot e ++ r) ≡ e
-unfolding slot slot-of read-slot
-slot-read e r =
-    let b = expression-bytes e in
-    let z = zeros (slot-size - 1 - length b) in
-    ap (λ x. read-expression (take (length b) x)) (append-assoc b z r) ∙ ap read-expression (take-at b (z ++ r) (length b) refl) ∙ read-bytes e
+  pub past-two : drop (2 * n) (a ++ (b ++ (c ++ d))) ≡ c ++ d
+  past-two =
+      let e : 2 * n ≡ n + n = omega arith in
+      ap (λ (k : ℕ). drop k (a ++ (b ++ (c ++ d)))) e ∙ sym (drop-drop n n (a ++ (b ++ (c ++ d)))) ∙ ap (drop n) past-one ∙
+      drop-at b (c ++ d) n hb
 
--- one record ----------------------------------------------------------------------------------------------------------
-
--- what an allowed object's record rests on
-pub record Fits (o : Object) : Type 0 where
-  pub fits : used o ≤ o .maximum
-  pub change : expression-allowed (o .change) ≡ true
-  pub read : expression-allowed (o .read) ≡ true
-  pub execute : expression-allowed (o .execute) ≡ true
-
-pub record-length : (o : Object) → Fits o → length (record-bytes o) ≡ record-size o
-unfolding record-bytes
-record-length o h =
-    simp (length-append, length-replicate, slot-length _ (h .change), slot-length _ (h .read), slot-length _ (h .execute)) (omega arith)
+  pub past-three : drop (3 * n) (a ++ (b ++ (c ++ d))) ≡ d
+  past-three =
+      let e : 3 * n ≡ 2 * n + n = omega arith in
+      ap (λ (k : ℕ). drop k (a ++ (b ++ (c ++ d)))) e ∙ sym (drop-drop n (2 * n) (a ++ (b ++ (c ++ d)))) ∙ ap (drop n) past-two ∙
+      drop-at c d n hc
 
 -- a number in two bytes
 pub two-bytes : (n : ℕ) → n % 256 + 256 * (n / 256) ≡ n
 two-bytes n = mod-add-div n 256
 
--- past one, two and three parts as long as a slot
-module _ (a b c d : List ℕ) (ha : length a ≡ slot-size) (hb : length b ≡ slot-size) (hc : length c ≡ slot-size) where
-  pub past-one : drop slot-size (a ++ (b ++ (c ++ d))) ≡ b ++ (c ++ d)
-  past-one = drop-at a (b ++ (c ++ d)) slot-size ha
+module _ (slot : ℕ) (l : 2 ≤ slot) where
+  pub slot-length-with : (e : Expression) → expression-allowed-with slot e ≡ true → length (slot-of-with slot (expression-bytes e)) ≡ slot
+  unfolding slot-of-with
+  slot-length-with e h = simp (length-append, length-replicate) (omega (arith, expression-length-with slot l e h))
 
-  pub past-two : drop (2 * slot-size) (a ++ (b ++ (c ++ d))) ≡ c ++ d
-  past-two = sym (drop-drop slot-size slot-size (a ++ (b ++ (c ++ d)))) ∙ ap (drop slot-size) past-one ∙ drop-at b (c ++ d) slot-size hb
+  pub slot-read-with : (e : Expression) (r : List ℕ) → read-slot (slot-of-with slot (expression-bytes e) ++ r) ≡ e
+  unfolding slot-of-with read-slot
+  slot-read-with e r =
+      let b = expression-bytes e in
+      let z = zeros (slot - 1 - length b) in
+      ap (λ x. read-expression (take (length b) x)) (append-assoc b z r) ∙ ap read-expression (take-at b (z ++ r) (length b) refl) ∙ read-bytes e
 
-  pub past-three : drop (3 * slot-size) (a ++ (b ++ (c ++ d))) ≡ d
-  past-three = sym (drop-drop slot-size (2 * slot-size) (a ++ (b ++ (c ++ d)))) ∙ ap (drop slot-size) past-two ∙ drop-at c d slot-size hc
+  -- one record --------------------------------------------------------------------------------------------------------
 
-pub record-read : (o : Object) (r : List ℕ) → Fits o → read-record (record-bytes o ++ r) ≡ o
-unfolding record-bytes read-record low-at
-record-read o r h = λ i.
-    record {
-      number = two-bytes (o .number) i;
-      maximum = two-bytes (o .maximum) i;
-      lcso = o .lcso;
-      change = change i;
-      read = read i;
-      execute = execute i;
-      content = content i;
-    }
-  where
-    a : List ℕ
-    a = slot (o .change)
+  pub record-length-with : (o : Object) → AllowedWith slot o → length (record-bytes-with slot o) ≡ record-size-with slot o
+  unfolding record-bytes-with
+  record-length-with o h =
+      simp (length-append, length-replicate, slot-length-with _ (h .change), slot-length-with _ (h .read), slot-length-with _ (h .execute)) (omega (arith, h .used-fits))
 
-    b : List ℕ
-    b = slot (o .read)
+  pub record-read-with : (o : Object) (r : List ℕ) → AllowedWith slot o → read-record-with slot (record-bytes-with slot o ++ r) ≡ o
+  unfolding record-bytes-with read-record-with little-endian-at
+  record-read-with o r h = λ i.
+      record {
+        number = two-bytes (o .number) i;
+        kind = (ap read-kind (two-bytes (kind-number (o .kind))) ∙ storable (o .kind) (o .maximum) (o .content) (h .content) .read-back) i;
+        maximum = two-bytes (o .maximum) i;
+        lcso = o .lcso;
+        change = change i;
+        read = read i;
+        execute = execute i;
+        content = content i;
+      }
+    where
+      a : List ℕ
+      a = slot-of-with slot (expression-bytes (o .change))
 
-    c : List ℕ
-    c = slot (o .execute)
+      b : List ℕ
+      b = slot-of-with slot (expression-bytes (o .read))
 
-    d : List ℕ
-    d = o .content ++ (zeros (o .maximum - used o) ++ [])
+      c : List ℕ
+      c = slot-of-with slot (expression-bytes (o .execute))
 
-    regroup : (a ++ (b ++ (c ++ d))) ++ r ≡ a ++ (b ++ (c ++ (d ++ r)))
-    regroup = simp append-assoc
+      d : List ℕ
+      d = o .content ++ (zeros (o .maximum - used o) ++ [])
 
-    past : (n : ℕ) → List ℕ
-    past n = drop n ((a ++ (b ++ (c ++ d))) ++ r)
+      regroup : (a ++ (b ++ (c ++ d))) ++ r ≡ a ++ (b ++ (c ++ (d ++ r)))
+      regroup = simp append-assoc
 
-    ha : length a ≡ slot-size
-    ha = slot-length (o .change) (h .change)
+      -- behind the first 12 bytes
+      all : List ℕ
+      all = (a ++ (b ++ (c ++ d))) ++ r
 
-    hb : length b ≡ slot-size
-    hb = slot-length (o .read) (h .read)
+      record-all : List ℕ
+      record-all = record-bytes-with slot o ++ r
 
-    hc : length c ≡ slot-size
-    hc = slot-length (o .execute) (h .execute)
+      behind : (k : ℕ) → drop (12 + k) record-all ≡ drop k all
+      behind k = sym (drop-drop k 12 record-all)
 
-    change : read-slot (past 0) ≡ o .change
-    change = ap read-slot regroup ∙ slot-read (o .change) (b ++ (c ++ (d ++ r)))
+      ha : length a ≡ slot
+      ha = slot-length-with (o .change) (h .change)
 
-    read : read-slot (past slot-size) ≡ o .read
-    read = ap (λ x. read-slot (drop slot-size x)) regroup ∙ ap read-slot (past-one a b c (d ++ r) ha hb hc) ∙ slot-read (o .read) (c ++ (d ++ r))
+      hb : length b ≡ slot
+      hb = slot-length-with (o .read) (h .read)
 
-    execute : read-slot (past (2 * slot-size)) ≡ o .execute
-    execute = ap (λ x. read-slot (drop (2 * slot-size) x)) regroup ∙ ap read-slot (past-two a b c (d ++ r) ha hb hc) ∙ slot-read (o .execute) (d ++ r)
+      hc : length c ≡ slot
+      hc = slot-length-with (o .execute) (h .execute)
 
-    content : take (used o % 256 + 256 * (used o / 256)) (past (3 * slot-size)) ≡ o .content
-    content =
-        ap (λ n. take n (past (3 * slot-size))) (two-bytes (used o)) ∙ ap (λ x. take (used o) (drop (3 * slot-size) x)) regroup ∙
-        ap (take (used o)) (past-three a b c (d ++ r) ha hb hc ∙ append-assoc (o .content) _ r) ∙
-        take-at (o .content) _ (used o) refl
+      change : read-slot all ≡ o .change
+      change = ap read-slot regroup ∙ slot-read-with (o .change) (b ++ (c ++ (d ++ r)))
 
-pub allowed-fits : (o : Object) → object-allowed o ≡ true → Fits o
-unfolding object-allowed
-allowed-fits o h =
-    record {
-      fits = leb-true (used o) (o .maximum) (at-place _ h 4);
-      change = at-place _ h 6;
-      read = at-place _ h 7;
-      execute = at-place _ h 8;
-    }
+      read : read-slot (drop (12 + slot) record-all) ≡ o .read
+      read =
+          ap read-slot (behind slot) ∙ ap (λ x. read-slot (drop slot x)) regroup ∙
+          ap read-slot (past-one slot a b c (d ++ r) ha hb hc) ∙ slot-read-with (o .read) (c ++ (d ++ r))
 
--- all records ---------------------------------------------------------------------------------------------------------
+      execute : read-slot (drop (12 + 2 * slot) record-all) ≡ o .execute
+      execute =
+          ap read-slot (behind (2 * slot)) ∙ ap (λ x. read-slot (drop (2 * slot) x)) regroup ∙
+          ap read-slot (past-two slot a b c (d ++ r) ha hb hc) ∙ slot-read-with (o .execute) (d ++ r)
 
--- the first of several records is read, and the reading goes on after it
-pub first-read : (n : ℕ) (o : Object) (r : List ℕ) → Fits o → read-records (suc n) (record-bytes o ++ r) ≡ o ∷ read-records n r
-first-read n o r h =
-    step ∙ ap (λ p. p ∷ read-records n (drop (low-at 0 (record-bytes o ++ r)) (record-bytes o ++ r))) (record-read o r h) ∙
-    ap (λ k. o ∷ read-records n (drop k (record-bytes o ++ r))) first-length ∙ ap (λ x. o ∷ read-records n x) rest
-  where
-    step : read-records (suc n) (record-bytes o ++ r) ≡
-        read-record (record-bytes o ++ r) ∷ read-records n (drop (low-at 0 (record-bytes o ++ r)) (record-bytes o ++ r))
-    step = unfold read-records record-bytes in refl
+      content : take (used o % 256 + 256 * (used o / 256)) (drop (12 + 3 * slot) record-all) ≡ o .content
+      content =
+          ap (λ n. take n (drop (12 + 3 * slot) record-all)) (two-bytes (used o)) ∙ ap (take (used o)) (behind (3 * slot)) ∙
+          ap (λ x. take (used o) (drop (3 * slot) x)) regroup ∙
+          ap (take (used o)) (past-three slot a b c (d ++ r) ha hb hc ∙ append-assoc (o .content) _ r) ∙
+          take-at (o .content) _ (used o) refl
 
-    first-length : low-at 0 (record-bytes o ++ r) ≡ record-size o
-    first-length = unfold record-bytes low-at in two-bytes (record-size o)
+  -- all records -------------------------------------------------------------------------------------------------------
 
-    rest : drop (record-size o) (record-bytes o ++ r) ≡ r
-    rest = drop-at (record-bytes o) r (record-size o) (record-length o h)
+  -- the first of several records is read, and the reading goes on after it
+  pub first-read-with : (n : ℕ) (o : Object) (r : List ℕ) → AllowedWith slot o → read-records-with slot (suc n) (record-bytes-with slot o ++ r) ≡ o ∷ read-records-with slot n r
+  first-read-with n o r h =
+      step ∙ ap (λ p. p ∷ read-records-with slot n (drop (little-endian-at 0 (record-bytes-with slot o ++ r)) (record-bytes-with slot o ++ r))) (record-read-with o r h) ∙
+      ap (λ k. o ∷ read-records-with slot n (drop k (record-bytes-with slot o ++ r))) first-length ∙ ap (λ x. o ∷ read-records-with slot n x) rest
+    where
+      step : read-records-with slot (suc n) (record-bytes-with slot o ++ r) ≡
+          read-record-with slot (record-bytes-with slot o ++ r) ∷ read-records-with slot n (drop (little-endian-at 0 (record-bytes-with slot o ++ r)) (record-bytes-with slot o ++ r))
+      step = unfold read-records-with record-bytes-with in refl
 
-pub records-read : (n : ℕ) (os : List Object) → length os ≤ n → all-allowed os ≡ true → read-records n (pack os) ≡ os
-unfolding pack all-allowed
-records-read zero [] l h = unfold read-records in refl
-records-read (suc n) [] l h = unfold read-records in refl
-records-read zero (o ∷ os) l h = absurd (not-suc-le-zero l)
-records-read (suc n) (o ∷ os) l h =
-    first-read n o (pack os) (allowed-fits o (and-left (object-allowed o) (all-allowed os) h)) ∙
-    ap (λ x. o ∷ x) (records-read n os (le-of-suc-le-suc l) (and-right (object-allowed o) (all-allowed os) h))
+      first-length : little-endian-at 0 (record-bytes-with slot o ++ r) ≡ record-size-with slot o
+      first-length = unfold record-bytes-with little-endian-at in two-bytes (record-size-with slot o)
 
-pub in-count : (os : List Object) → objects-allowed os ≡ true → (length os ≤ 32) × (all-allowed os ≡ true)
-unfolding objects-allowed
-in-count os h = (leb-true (length os) 32 (at-place _ h 1), at-place _ h 4)
+      rest : drop (record-size-with slot o) (record-bytes-with slot o ++ r) ≡ r
+      rest = drop-at (record-bytes-with slot o) r (record-size-with slot o) (record-length-with o h)
 
--- the two theorems ----------------------------------------------------------------------------------------------------
+  pub records-read-with : (n : ℕ) (os : List Object) → length os ≤ n → all-allowed-with slot os ≡ true → read-records-with slot n (pack-with slot os) ≡ os
+  unfolding pack-with all-allowed-with
+  records-read-with zero [] l h = unfold read-records-with in refl
+  records-read-with (suc n) [] l h = unfold read-records-with in refl
+  records-read-with zero (o ∷ os) l h = absurd (not-suc-le-zero l)
+  records-read-with (suc n) (o ∷ os) l h =
+      first-read-with n o (pack-with slot os) (allowed-with slot o (and-left (object-allowed-with slot o) (all-allowed-with slot os) h)) ∙
+      ap (λ x. o ∷ x) (records-read-with n os (le-of-suc-le-suc l) (and-right (object-allowed-with slot o) (all-allowed-with slot os) h))
 
--- allowed objects are read back from their packing
+  -- the two theorems --------------------------------------------------------------------------------------------------
+
+  -- allowed objects are read back from their packing
+  pub unpack-pack-with : (os : List Object) → objects-allowed-with slot os ≡ true → unpack-with slot (pack-with slot os) ≡ some os
+  unfolding unpack-with
+  unpack-pack-with os h =
+      let a = all-allowed-with-facts slot os h in
+      rw (records-read-with 32 os (a .count) (a .each), h, same-refl (pack-with slot os))
+
+  -- a store that is read is the packing of what is read, which is allowed
+  pub pack-unpack-with : (b : List ℕ) (os : List Object) → unpack-with slot b ≡ some os → (pack-with slot os ≡ b) × (objects-allowed-with slot os ≡ true)
+  unfolding unpack-with
+  pack-unpack-with b os h =
+      let ps = read-records-with slot 32 b in
+      let (t, e) = chosen (objects-allowed-with slot ps && same (pack-with slot ps) b) ps os h in (
+        ap (pack-with slot) (sym e) ∙ same-eq (pack-with slot ps) b (and-right (objects-allowed-with slot ps) (same (pack-with slot ps) b) t),
+        ap (objects-allowed-with slot) (sym e) ∙ and-left (objects-allowed-with slot ps) (same (pack-with slot ps) b) t,
+      )
+
+-- with the present slots --------------------------------------------------------------------------------------------------
+
+two : 2 ≤ slot-size
+two = omega arith
+
+pub slot-length : (e : Expression) → expression-allowed e ≡ true → length (slot e) ≡ slot-size
+slot-length = slot-length-with slot-size two
+
+pub slot-read : (e : Expression) (r : List ℕ) → read-slot (slot e ++ r) ≡ e
+slot-read = slot-read-with slot-size two
+
+pub record-length : (o : Object) → Allowed o → length (record-bytes o) ≡ record-size o
+record-length = record-length-with slot-size two
+
+pub record-read : (o : Object) (r : List ℕ) → Allowed o → read-record (record-bytes o ++ r) ≡ o
+record-read = record-read-with slot-size two
+
 pub unpack-pack : (os : List Object) → objects-allowed os ≡ true → unpack (pack os) ≡ some os
-unfolding unpack
-unpack-pack os h =
-    let (count, each) = in-count os h in
-    rw (records-read 32 os count each, h, same-refl (pack os))
+unpack-pack = unpack-pack-with slot-size two
 
--- a store that is read is the packing of what is read, which is allowed
 pub pack-unpack : (b : List ℕ) (os : List Object) → unpack b ≡ some os → (pack os ≡ b) × (objects-allowed os ≡ true)
-unfolding unpack
-pack-unpack b os h =
-    let ps = read-records 32 b in
-    let (t, e) = chosen (objects-allowed ps && same (pack ps) b) ps os h in (
-      ap pack (sym e) ∙ same-eq (pack ps) b (and-right (objects-allowed ps) (same (pack ps) b) t),
-      ap objects-allowed (sym e) ∙ and-left (objects-allowed ps) (same (pack ps) b) t,
-    )
+pack-unpack = pack-unpack-with slot-size two

@@ -15,8 +15,9 @@ use Rattle.rules.specs.Object.{Object, object-allowed}
 use Rattle.rules.specs.Metadata.{Field, field, fields-bytes, led-by-20, read-fields, sent-fields, field-allowed, fields-allowed, metadata-allowed}
 use Rattle.rules.specs.Metadata.{object-fields, value-of, sent-state, sent-expression, with-fields}
 use Rattle.rules.specs.Demand.{without-sizes}
-use Rattle.rules.proofs.Tests.{at-place, same-refl}
+use Rattle.rules.proofs.Tests.{same-refl}
 use Rattle.rules.proofs.Expressions.{expression-back}
+use Rattle.rules.proofs.Facts.{allowed}
 
 -- fields are read back from their bytes
 pub fields-read : (n : ℕ) (fs : List Field) → length fs ≤ n → read-fields n (fields-bytes fs) ≡ fs
@@ -49,13 +50,13 @@ record Own (o : Object) : Type 0 where
   execute : expression (expression-bytes (o .execute)) ≡ some (o .execute)
 
 own : (o : Object) → object-allowed o ≡ true → Own o
-unfolding object-allowed
 own o h =
+    let a = allowed o h in
     record {
-      state = at-place _ h 5;
-      change = expression-back (o .change) (at-place _ h 6);
-      read = expression-back (o .read) (at-place _ h 7);
-      execute = expression-back (o .execute) (at-place _ h 8);
+      state = a .state;
+      change = expression-back (o .change) (a .change);
+      read = expression-back (o .read) (a .read);
+      execute = expression-back (o .execute) (a .execute);
     }
 
 own-fields-allowed : (o : Object) → Own o → fields-allowed (o .lcso) (own-fields o) ≡ true

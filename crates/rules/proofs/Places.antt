@@ -1,7 +1,7 @@
 -- Where an object stands in the store: finding it splits the objects, and replacing it changes its record alone.
 use Prim.Native.Nat.{ℕ, _+_, _≤_, _<_}
 use mathlib.Core.Bool.{Bool, true, false}
-use mathlib.Core.List.{List, [], _∷_, _++_, append-assoc, map}
+use mathlib.Core.List.{List, [], _∷_, _++_, append-assoc}
 use mathlib.Core.Option.{some}
 use mathlib.Core.Path.{_≡_, refl, sym, ap, _∙_}
 use native.Mathlib.Omega.{arith}
@@ -9,28 +9,38 @@ use borrow.Author.Tests.{ltb-true, eqb-true, eq-eqb, ne-eqb}
 use lib.Dec.{eqb, ltb}
 use lib.ListN.{length, length-append}
 use Rattle.rules.specs.Basic.{if_then_else_, rising-from, rising}
-use Rattle.rules.specs.Object.{Object, object-allowed, all-allowed}
-use Rattle.rules.specs.Layout.{size, record-bytes, pack, find, replaced}
+use Rattle.rules.specs.Expression.{slot-size}
+use Rattle.rules.specs.Object.{Object, object-allowed-with, all-allowed-with, all-allowed}
+use Rattle.rules.specs.Layout.{size-with, size, record-bytes-with, record-bytes, pack-with, pack, find, replaced}
 use Rattle.rules.proofs.Tests.{and-left, and-right}
-use Rattle.rules.proofs.Inverse.{allowed-fits, record-length}
+use Rattle.rules.proofs.Facts.{allowed-with, numbers}
+use Rattle.rules.proofs.Inverse.{record-length-with}
 
 -- bytes of several records --------------------------------------------------------------------------------------------
 
+module _ (slot : ℕ) where
+  pub pack-append-with : (os ps : List Object) → pack-with slot (os ++ ps) ≡ pack-with slot os ++ pack-with slot ps
+  unfolding pack-with
+  pack-append-with [] ps = refl
+  pack-append-with (o ∷ os) ps = rw (pack-append-with os ps) (sym (append-assoc (record-bytes-with slot o) (pack-with slot os) (pack-with slot ps)))
+
+  pub pack-length-with : 2 ≤ slot → (os : List Object) → all-allowed-with slot os ≡ true → length (pack-with slot os) ≡ size-with slot os
+  unfolding pack-with size-with all-allowed-with
+  pack-length-with l [] h = refl
+  pack-length-with l (o ∷ os) h =
+      omega (
+        arith,
+        length-append (record-bytes-with slot o) (pack-with slot os),
+        record-length-with slot l o (allowed-with slot o (and-left (object-allowed-with slot o) (all-allowed-with slot os) h)),
+        pack-length-with l os (and-right (object-allowed-with slot o) (all-allowed-with slot os) h),
+      )
+
+-- with the present slots
 pub pack-append : (os ps : List Object) → pack (os ++ ps) ≡ pack os ++ pack ps
-unfolding pack
-pack-append [] ps = refl
-pack-append (o ∷ os) ps = rw (pack-append os ps) (sym (append-assoc (record-bytes o) (pack os) (pack ps)))
+pack-append = pack-append-with slot-size
 
 pub pack-length : (os : List Object) → all-allowed os ≡ true → length (pack os) ≡ size os
-unfolding pack size all-allowed
-pack-length [] h = refl
-pack-length (o ∷ os) h =
-    omega (
-      arith,
-      length-append (record-bytes o) (pack os),
-      record-length o (allowed-fits o (and-left (object-allowed o) (all-allowed os) h)),
-      pack-length os (and-right (object-allowed o) (all-allowed os) h),
-    )
+pack-length = pack-length-with slot-size (omega arith)
 
 -- finding -------------------------------------------------------------------------------------------------------------
 
@@ -41,10 +51,10 @@ pub record Stands (n : ℕ) (os : List Object) (o : Object) : Type 0 where
   pub split : os ≡ before ++ o ∷ after
   pub number : o .number ≡ n
 
-pub found : (n : ℕ) (os : List Object) (o : Object) → find n os ≡ some o → Stands n os o
+pub found-stands : (n : ℕ) (os : List Object) (o : Object) → find n os ≡ some o → Stands n os o
 unfolding find
-found n [] o h = let z : _≡_ {A = ℕ} 0 1 = cc in absurd (omega arith)
-found n (p ∷ os) o h = go (eqb n (p .number)) refl h (found n os o)
+found-stands n [] o h = let z : _≡_ {A = ℕ} 0 1 = cc in absurd (omega arith)
+found-stands n (p ∷ os) o h = go (eqb n (p .number)) refl h (found-stands n os o)
   where
     go : (t : Bool) → eqb n (p .number) ≡ t → (if t then some p else find n os) ≡ some o → (find n os ≡ some o → Stands n os o) → Stands n (p ∷ os) o
     go true e h later =
@@ -60,9 +70,6 @@ found n (p ∷ os) o h = go (eqb n (p .number)) refl h (found n os o)
         record { before = p ∷ r .before; after = r .after; split = ap (λ x. p ∷ x) (r .split); number = r .number }
 
 -- replacing -----------------------------------------------------------------------------------------------------------
-
-unfoldable pub numbers : List Object → List ℕ
-numbers os = map (λ o. o .number) os
 
 -- an object whose number is not above k is not among objects that rise from k
 replaced-above : (o : Object) (k : ℕ) (os : List Object) → o .number ≤ k → rising-from k (numbers os) ≡ true → replaced o os ≡ os
@@ -113,4 +120,4 @@ pub replaced-bytes : (before : List Object) (o : Object) (after : List Object) (
     rising (numbers (before ++ o ∷ after)) ≡ true →
     pack (replaced new (before ++ o ∷ after)) ≡ pack before ++ (record-bytes new ++ pack after)
 replaced-bytes before o after new e h =
-    ap pack (replaced-at before o after new e h) ∙ pack-append before (new ∷ after) ∙ ap (λ x. pack before ++ x) (unfold pack in refl)
+    ap pack (replaced-at before o after new e h) ∙ pack-append before (new ∷ after) ∙ ap (λ x. pack before ++ x) (unfold pack-with in refl)

@@ -38,8 +38,7 @@ module _ (k : ℕ) (b old : List ℕ) where
 
   -- behind the front, the bytes and what was past them
   behind : (i : ℕ) → getD (put-at k b old) (k + i) 0 ≡ getD (b ++ drop (k + length b) old) i 0
-  behind i =
-      (λ j. getD (parts j) (sym front-length j + i) 0) ∙ getD-append-add front (b ++ drop (k + length b) old) i 0
+  behind i = (λ j. getD (parts j) (sym front-length j + i) 0) ∙ getD-append-add front (b ++ drop (k + length b) old) i 0
 
   pub put-there : (i : ℕ) → i < length b → getD (put-at k b old) (k + i) 0 ≡ getD b i 0
   put-there i h = behind i ∙ List·getD-append b (drop (k + length b) old) 0 i h

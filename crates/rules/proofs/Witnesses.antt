@@ -10,18 +10,20 @@ use native.Mathlib.Omega.{arith}
 use lib.ListN.{length, replicate}
 use Rattle.mixing.specs.Runs.{Mix, both-used-up, first, second, All, Mixed}
 use Rattle.rules.specs.declared.Session.{Session}
+use Rattle.rules.specs.declared.Action.the-variants.{Write, EraseAndWrite, SetMetadata}
 use Rattle.rules.specs.Basic.{all, among, same, rising-from, rising, zeros}
 use Rattle.rules.specs.Hex.{ascii, digits, pairs, hex}
-use Rattle.rules.specs.Command.{asks-flush, cmd, param, in-length, in-data, row-of, row, length-right, names-object, object-number, offset, asked-length, sent-data, sent-metadata}
+use Rattle.rules.specs.Command.{asks-flush, cmd, param, in-length, in-data, size-right, table-line, command-table, line-in, line-of, row, object-number, offset, asked-length, sent-data, sent-metadata}
 use Rattle.rules.specs.Response.{done-response, put-in-front}
-use Rattle.rules.specs.Expression.{is-state, may-become, present, condition-holds, group-holds, groups-hold, holds}
-use Rattle.rules.specs.Object.{Object, in-session}
+use Rattle.rules.specs.Expression.{is-state, may-become}
+use Rattle.rules.specs.Object.{Object, in-session, with-content}
 use Rattle.rules.specs.Layout.{unpack, find, replaced}
 use Rattle.rules.specs.Factory.{entry, table, before-operational, made, factory-objects, factory-store, fresh-session}
 use Rattle.rules.specs.Session.{with-opened, with-error}
 use Rattle.rules.specs.Metadata.{field, fields-bytes, led-by-20, read-fields, sent-fields, field-allowed, fields-allowed, metadata-allowed}
-use Rattle.rules.specs.Operation.{with-content, put-at}
-use Rattle.rules.specs.Refusals.{ill-sized}
+use Rattle.rules.specs.Access.{seen, present, condition-holds, group-holds, groups-hold, holds}
+use Rattle.rules.specs.Operation.{put-at}
+use Rattle.rules.specs.Refusals.{ill-sized, wrong-length}
 use Rattle.rules.specs.Step.{flushed, step}
 use Rattle.rules.specs.Run.{Turn, Kept, reply, left}
 use Rattle.rules.specs.Demand.{is-done, Ready, well-formed, writes, content-allowed, changed, MayWrite, WritesExactly, MayRead, session-byte, MayReadByte, after-byte, Shown}
@@ -44,7 +46,7 @@ F1D0 = made (entry 0xF1D0 140)
 
 -- `unfolding computed` opens what a record of assumptions speaks of
 computed : List Bool
-unfolding opened room F1D0 all among same rising-from rising ascii digits pairs hex asks-flush cmd param in-length in-data row-of row length-right names-object object-number offset asked-length sent-data sent-metadata is-state may-become present condition-holds group-holds groups-hold holds in-session find entry table before-operational made factory-objects fresh-session with-opened with-error field fields-bytes led-by-20 read-fields sent-fields field-allowed fields-allowed metadata-allowed with-content put-at ill-sized flushed well-formed writes content-allowed changed session-byte reads-or-writes object-of
+unfolding opened room F1D0 all among same rising-from rising ascii digits pairs hex asks-flush cmd param in-length in-data size-right table-line command-table line-in line-of row object-number offset asked-length sent-data sent-metadata is-state may-become seen present condition-holds group-holds groups-hold holds in-session find entry table before-operational made factory-objects fresh-session with-opened with-error field fields-bytes led-by-20 read-fields sent-fields field-allowed fields-allowed metadata-allowed with-content put-at ill-sized wrong-length flushed well-formed writes content-allowed changed session-byte reads-or-writes object-of
 computed = []
 
 pub factory-ready : Ready room factory-store opened factory-objects
@@ -55,16 +57,16 @@ factory-ready = search (factory-sound, arith)
 unfoldable pub P3 : List ℕ
 P3 = hex "02 00 00 0C F1 D0 00 09 01 02 03 04 05 06 07 08"
 
-pub may-write : MayWrite P3 opened F1D0
+pub may-write : MayWrite Write P3 (seen factory-objects opened) F1D0
 unfolding computed P3
 may-write = search
 
 -- an erase and write, and a metadata write
-pub may-erase-and-write : MayWrite (hex "02 40 00 05 F1 D0 00 01 09") opened F1D0
+pub may-erase-and-write : MayWrite EraseAndWrite (hex "02 40 00 05 F1 D0 00 01 09") (seen factory-objects opened) F1D0
 unfolding computed
 may-erase-and-write = search
 
-pub may-set-metadata : MayWrite (hex "02 01 00 07 F1 D0 20 03 C0 01 07") opened F1D0
+pub may-set-metadata : MayWrite SetMetadata (hex "02 01 00 07 F1 D0 20 03 C0 01 07") (seen factory-objects opened) F1D0
 unfolding computed
 may-set-metadata = search
 
@@ -72,9 +74,9 @@ may-set-metadata = search
 unfoldable pub F1D0-written : Object
 F1D0-written = with-content (zeros 9 ++ hex "01 02 03 04 05 06 07 08") F1D0
 
-pub P3-writes : WritesExactly P3 room factory-store opened factory-objects F1D0 (step P3 room factory-store opened)
+pub P3-writes : WritesExactly Write P3 room factory-store opened factory-objects F1D0 (step P3 room factory-store opened)
 unfolding computed P3
-P3-writes = write-exactly-when P3 room factory-store opened factory-objects F1D0 factory-ready refl refl
+P3-writes = write-exactly-when P3 room factory-store opened factory-objects F1D0 factory-ready Write refl refl refl
 
 -- the store that it leaves
 unfoldable pub written : List ℕ
@@ -92,7 +94,7 @@ written-ready = search (written-sound, arith)
 unfoldable pub P4 : List ℕ
 P4 = hex "01 00 00 06 F1 D0 00 00 00 11"
 
-pub may-read : MayRead P4 (length room) opened F1D0-written
+pub may-read : MayRead P4 (length room) (seen (replaced F1D0-written factory-objects) opened) F1D0-written
 unfolding computed P4 F1D0-written
 may-read = search arith
 

@@ -48,18 +48,18 @@ abbrev pub zeros : ℕ → List ℕ
 zeros n = replicate n 0
 
 -- a number in two bytes: least significant first (the store), most significant first (commands and responses)
-abbrev pub low-first : ℕ → List ℕ
-low-first n = n % 256 ∷ n / 256 ∷ []
+abbrev pub little-endian : ℕ → List ℕ
+little-endian n = n % 256 ∷ n / 256 ∷ []
 
-abbrev pub high-first : ℕ → List ℕ
-high-first n = n / 256 ∷ n % 256 ∷ []
+abbrev pub big-endian : ℕ → List ℕ
+big-endian n = n / 256 ∷ n % 256 ∷ []
 
 -- the number in the two bytes at k
-unfoldable pub low-at : ℕ → List ℕ → ℕ
-low-at k b = getD b k 0 + 256 * getD b (k + 1) 0
+unfoldable pub little-endian-at : ℕ → List ℕ → ℕ
+little-endian-at k b = getD b k 0 + 256 * getD b (k + 1) 0
 
-abbrev pub high-at : ℕ → List ℕ → ℕ
-high-at k b = 256 * getD b k 0 + getD b (k + 1) 0
+abbrev pub big-endian-at : ℕ → List ℕ → ℕ
+big-endian-at k b = 256 * getD b k 0 + getD b (k + 1) 0
 
 abbrev pub is-none : {A : Type 0} → Option A → Bool
 is-none none = true
@@ -68,6 +68,11 @@ is-none (some a) = false
 abbrev pub is-some : {A : Type 0} → Option A → Bool
 is-some none = false
 is-some (some a) = true
+
+-- the first that is there
+abbrev pub first-of : {A : Type 0} → Option A → Option A → Option A
+first-of none later = later
+first-of (some a) later = some a
 
 -- what is there, or d
 abbrev pub or-else : {A : Type 0} → Option A → A → A

@@ -8,7 +8,8 @@ use lib.ListN.{length, take, replicate}
 use Rattle.rules.specs.declared.Session.{Session}
 use Rattle.rules.specs.Basic.{all, same, is-some, or-else}
 use Rattle.rules.specs.Hex.{hex}
-use Rattle.rules.specs.Expression.{expression, holds, never}
+use Rattle.rules.specs.Expression.{expression, never}
+use Rattle.rules.specs.Access.{seen, holds}
 use Rattle.rules.specs.Layout.{unpack}
 use Rattle.rules.specs.Factory.{factory-store, fresh-session, factory-outcome, factory-made}
 use Rattle.rules.specs.Step.{After, step}
@@ -154,7 +155,7 @@ run-right r replies store s = all (same-replies (r .replies) replies ∷ same (r
 unfoldable pub right : Case → Bool
 right (talk store s es end) = talk-right es store s end
 right (stores store s es end) = same (store-after es store s) end
-right (judge b s lcso answer) = is-some (expression b) && Bool·beq (holds s lcso (or-else (expression b) never)) answer
+right (judge b s lcso answer) = is-some (expression b) && Bool·beq (holds (seen [] s) lcso (or-else (expression b) never)) answer
 right (written b answer) = Bool·beq (is-some (expression b)) answer
 right (sound b answer) = Bool·beq (is-some (unpack b)) answer
 right (begins b) = same (take (length b) factory-store) b

@@ -1,12 +1,14 @@
--- Command and response bytes: a command's parts, and the rows of the command table.
+-- Command and response bytes: a command's parts, and the command table.
 use Prim.Native.Nat.{ℕ, _%_}
-use mathlib.Core.Bool.{Bool, true, false, _&&_}
+use mathlib.Core.Bool.{Bool, true, false, _&&_, _||_}
 use mathlib.Core.List.{List, [], _∷_, _++_}
 use lib.Dec.{eqb, leb}
 use lib.ListN.{getD, drop}
+use Rattle.rules.specs.declared.Action.the-variants.{GetData, GetMetadata, Write, EraseAndWrite, SetMetadata}
+use Rattle.rules.specs.declared.Sizes.{Sizes}
 use Rattle.rules.specs.declared.Row.{Row}
-use Rattle.rules.specs.declared.Row.the-variants.{GetData, GetMetadata, Write, EraseAndWrite, SetMetadata, OpenApplication, CloseApplication, Unknown}
-use Rattle.rules.specs.Basic.{if_then_else_, among, high-at}
+use Rattle.rules.specs.declared.Row.the-variants.{OnObject, OpenApplication, CloseApplication, Unknown}
+use Rattle.rules.specs.Basic.{if_then_else_, same, big-endian-at}
 use Rattle.rules.specs.Hex.{hex, ascii}
 
 -- Cmd (1), Param (1), InLen (2), InData --------------------------------------------------------------------------------
@@ -23,78 +25,102 @@ unfoldable pub param : List ℕ → ℕ
 param c = getD c 1 0
 
 unfoldable pub in-length : List ℕ → ℕ
-in-length c = high-at 2 c
+in-length c = big-endian-at 2 c
 
 unfoldable pub in-data : List ℕ → List ℕ
 in-data c = drop 4 c
 
 -- the command table ----------------------------------------------------------------------------------------------------
 
-unfoldable pub known-cmd : ℕ → Bool
-known-cmd n = among (0x01 ∷ 0x02 ∷ 0x70 ∷ 0x71 ∷ []) n
+-- how many bytes InData may have
+abbrev pub between : ℕ → ℕ → Sizes
+between n m = record { least = n; most = m }
 
--- Cmd and Param of each row; Unknown: no row has them
-unfoldable pub row-of : ℕ → ℕ → Row
-row-of cmd param =
-    if eqb cmd 0x01 && eqb param 0x00 then GetData else
-    if eqb cmd 0x01 && eqb param 0x01 then GetMetadata else
-    if eqb cmd 0x02 && eqb param 0x00 then Write else
-    if eqb cmd 0x02 && eqb param 0x40 then EraseAndWrite else
-    if eqb cmd 0x02 && eqb param 0x01 then SetMetadata else
-    if eqb cmd 0x70 && eqb param 0x00 then OpenApplication else
-    if eqb cmd 0x71 && eqb param 0x00 then CloseApplication else
-    Unknown
+abbrev pub exactly : ℕ → Sizes
+exactly n = between n n
 
-unfoldable pub row : List ℕ → Row
-row c = row-of (cmd c) (param c)
+-- InLen is a number of two bytes
+abbrev pub at-least : ℕ → Sizes
+at-least n = between n 0xFFFF
 
-unfoldable pub is-unknown : Row → Bool
-is-unknown Unknown = true
-is-unknown GetData = false
-is-unknown GetMetadata = false
-is-unknown Write = false
-is-unknown EraseAndWrite = false
-is-unknown SetMetadata = false
-is-unknown OpenApplication = false
-is-unknown CloseApplication = false
-
--- InLen is right for the row
-unfoldable pub length-right : Row → ℕ → Bool
--- object 2, offset 2, length 2
-length-right GetData n = eqb n 6
--- object 2
-length-right GetMetadata n = eqb n 2
--- object 2, offset 2, one byte or more
-length-right Write n = leb 5 n
-length-right EraseAndWrite n = leb 5 n
--- object 2, then 20, L, L bytes: at least 4; a wrong 20 or L waits for step 12
-length-right SetMetadata n = leb 4 n
--- D2 76 00 00 04, then "GenAuthAppl" in ASCII (16 bytes)
-length-right OpenApplication n = eqb n 16
--- nothing
-length-right CloseApplication n = eqb n 0
-length-right Unknown n = false
+-- so many bytes are right
+unfoldable pub size-right : Sizes → ℕ → Bool
+size-right z n = leb (z .least) n && leb n (z .most)
 
 -- what an open must send
 unfoldable pub identifier : List ℕ
 identifier = hex "D2 76 00 00 04" ++ ascii "GenAuthAppl"
 
+-- InData that only later steps judge
+unfoldable pub anything : List ℕ → Bool
+anything b = true
+
+-- a line of the table: Cmd, Param, the size of InData (step 7), what it must be (step 8), and the row's name
+pub record Line : Type 0 where
+  pub cmd : ℕ
+  pub param : ℕ
+  pub sizes : Sizes
+  pub takes : List ℕ → Bool
+  pub row : Row
+
+unfoldable pub table-line : ℕ → ℕ → Sizes → (List ℕ → Bool) → Row → Line
+table-line c p n t r = record { cmd = c; param = p; sizes = n; takes = t; row = r }
+
+unfoldable pub command-table : List Line
+command-table =
+    -- get data: object 2, offset 2, length 2
+    table-line 0x01 0x00 (exactly 6) anything (OnObject GetData) ∷
+    -- get metadata: object 2
+    table-line 0x01 0x01 (exactly 2) anything (OnObject GetMetadata) ∷
+    -- write, erase and write: object 2, offset 2, one byte or more
+    table-line 0x02 0x00 (at-least 5) anything (OnObject Write) ∷
+    table-line 0x02 0x40 (at-least 5) anything (OnObject EraseAndWrite) ∷
+    -- set metadata: object 2, then 20, L, L bytes: at least 4; a wrong 20 or L waits for step 12
+    table-line 0x02 0x01 (at-least 4) anything (OnObject SetMetadata) ∷
+    -- open: D2 76 00 00 04, then "GenAuthAppl" in ASCII (16 bytes)
+    table-line 0x70 0x00 (exactly 16) (same identifier) OpenApplication ∷
+    -- close: nothing
+    table-line 0x71 0x00 (exactly 0) anything CloseApplication ∷ []
+
+-- some line has this Cmd
+unfoldable pub known-cmd : List Line → ℕ → Bool
+known-cmd [] c = false
+known-cmd (l ∷ ls) c = eqb c (l .cmd) || known-cmd ls c
+
+-- where no line has a Cmd and a Param: no InData is right
+unfoldable pub no-line : ℕ → ℕ → Line
+no-line c p = table-line c p (between 1 0) anything Unknown
+
+-- the line of a Cmd and a Param
+unfoldable pub line-in : List Line → ℕ → ℕ → Line
+line-in [] c p = no-line c p
+line-in (l ∷ ls) c p = let rest = line-in ls c p in if eqb c (l .cmd) && eqb p (l .param) then l else rest
+
+unfoldable pub line-of : List ℕ → Line
+line-of c = line-in command-table (cmd c) (param c)
+
+unfoldable pub row : List ℕ → Row
+row c = line-of c .row
+
+abbrev pub is-unknown : Row → Bool
+is-unknown Unknown = true
+is-unknown (OnObject a) = false
+is-unknown OpenApplication = false
+is-unknown CloseApplication = false
+
 -- the parts of InData --------------------------------------------------------------------------------------------------
 
--- a get or a set names an object, in its fifth and sixth bytes
-unfoldable pub names-object : List ℕ → Bool
-names-object c = among (0x01 ∷ 0x02 ∷ []) (cmd c)
-
+-- a get or set, whatever its Param, names an object in its fifth and sixth bytes
 unfoldable pub object-number : List ℕ → ℕ
-object-number c = high-at 4 c
+object-number c = big-endian-at 4 c
 
 -- get data and write
 unfoldable pub offset : List ℕ → ℕ
-offset c = high-at 6 c
+offset c = big-endian-at 6 c
 
 -- get data
 unfoldable pub asked-length : List ℕ → ℕ
-asked-length c = high-at 8 c
+asked-length c = big-endian-at 8 c
 
 -- write
 unfoldable pub sent-data : List ℕ → List ℕ

@@ -10,18 +10,19 @@ use lib.ListN.{length, getD, take, drop}
 use Rattle.mixing.specs.Runs.{All}
 use Rattle.rules.specs.declared.Session.{Session}
 use Rattle.rules.specs.declared.Refusal.{Refusal}
-use Rattle.rules.specs.declared.Row.{Row}
-use Rattle.rules.specs.declared.Row.the-variants.{GetData, GetMetadata, Write, EraseAndWrite, SetMetadata, OpenApplication, CloseApplication, Unknown}
+use Rattle.rules.specs.declared.Action.{Action}
+use Rattle.rules.specs.declared.Action.the-variants.{GetData, GetMetadata, Write, EraseAndWrite, SetMetadata}
 use Rattle.rules.specs.Basic.{if_then_else_, among}
-use Rattle.rules.specs.Command.{asks-flush, row, in-length, names-object, object-number, offset, asked-length, sent-data, sent-metadata, length-right}
+use Rattle.rules.specs.Command.{asks-flush, cmd, object-number, offset, asked-length, sent-data, sent-metadata}
 use Rattle.rules.specs.Response.{code, done-response, refused-response, put-in-front}
-use Rattle.rules.specs.Expression.{is-state, holds}
-use Rattle.rules.specs.Object.{Object, used, in-session}
+use Rattle.rules.specs.Expression.{is-state}
+use Rattle.rules.specs.Object.{Object, used, in-session, with-content}
 use Rattle.rules.specs.Layout.{unpack, pack, find, replaced}
 use Rattle.rules.specs.Session.{with-error}
 use Rattle.rules.specs.Metadata.{Field, fields-bytes, object-fields, led-by-20, metadata-allowed, sent-fields, with-fields}
-use Rattle.rules.specs.Operation.{put-at, with-content}
-use Rattle.rules.specs.Refusals.{ill-sized}
+use Rattle.rules.specs.Access.{Seen, seen, holds}
+use Rattle.rules.specs.Operation.{put-at}
+use Rattle.rules.specs.Refusals.{ill-sized, wrong-length}
 use Rattle.rules.specs.Step.{After, raised, flushed}
 use Rattle.rules.specs.Run.{Turn}
 
@@ -72,74 +73,63 @@ pub record Ready (room store : List ℕ) (s : Session) (os : List Object) : Type
 
 -- the command is well formed: its own length and InLen, for its row
 unfoldable pub well-formed : List ℕ → Bool
-well-formed c = not (ill-sized c) && length-right (row c) (in-length c)
+well-formed c = not (ill-sized c) && not (wrong-length c)
 
 -- a write to a stored object: data, erasing or not, and metadata
-unfoldable pub writes : Row → Bool
+unfoldable pub writes : Action → Bool
 writes Write = true
 writes EraseAndWrite = true
 writes SetMetadata = true
 writes GetData = false
 writes GetMetadata = false
-writes OpenApplication = false
-writes CloseApplication = false
-writes Unknown = false
 
 -- the content is allowed and fits
-unfoldable pub content-allowed : Row → List ℕ → Object → Bool
+unfoldable pub content-allowed : Action → List ℕ → Object → Bool
 content-allowed Write c o = leb (offset c + length (sent-data c)) (o .maximum)
 content-allowed EraseAndWrite c o = leb (offset c + length (sent-data c)) (o .maximum)
 content-allowed SetMetadata c o = metadata-allowed (o .lcso) (sent-metadata c)
 content-allowed GetData c o = true
 content-allowed GetMetadata c o = true
-content-allowed OpenApplication c o = true
-content-allowed CloseApplication c o = true
-content-allowed Unknown c o = true
 
 -- the object after a write
-unfoldable pub changed : Row → List ℕ → Object → Object
+unfoldable pub changed : Action → List ℕ → Object → Object
 changed Write c o = with-content (put-at (offset c) (sent-data c) (o .content)) o
 changed EraseAndWrite c o = with-content (put-at (offset c) (sent-data c) []) o
 changed SetMetadata c o = with-fields (sent-fields (sent-metadata c)) o
 changed GetData c o = o
 changed GetMetadata c o = o
-changed OpenApplication c o = o
-changed CloseApplication c o = o
-changed Unknown c o = o
 
 -- when a write makes its change
-pub record MayWrite (c : List ℕ) (s : Session) (o : Object) : Type 0 where
+pub record MayWrite (a : Action) (c : List ℕ) (see : Seen) (o : Object) : Type 0 where
   pub command-well-formed : well-formed c ≡ true
-  pub change-condition-holds : holds s (o .lcso) (o .change) ≡ true
-  pub content-allowed-and-fits : content-allowed (row c) c o ≡ true
+  pub change-condition-holds : holds see (o .lcso) (o .change) ≡ true
+  pub content-allowed-and-fits : content-allowed a c o ≡ true
 
 -- a write makes its change exactly when it may: then it is done and the object, and it alone, is the changed one; else nothing is stored
-pub record WritesExactly (c room store : List ℕ) (s : Session) (os : List Object) (o : Object) (a : After) : Type 0 where
-  pub when : MayWrite c s o →
-      a ≡ record { outcome = 0; room = put-in-front (done-response []) room; store = pack (replaced (changed (row c) c o) os); session = flushed c s }
-  pub objects-after : MayWrite c s o → unpack (a .store) ≡ some (replaced (changed (row c) c o) os)
-  pub only-when : is-done a ≡ true → MayWrite c s o
-  pub else-kept : is-done a ≡ false → a .store ≡ store
+pub record WritesExactly (a : Action) (c room store : List ℕ) (s : Session) (os : List Object) (o : Object) (after : After) : Type 0 where
+  pub when : MayWrite a c (seen os s) o →
+      after ≡ record { outcome = 0; room = put-in-front (done-response []) room; store = pack (replaced (changed a c o) os); session = flushed c s }
+  pub objects-after : MayWrite a c (seen os s) o → unpack (after .store) ≡ some (replaced (changed a c o) os)
+  pub only-when : is-done after ≡ true → MayWrite a c (seen os s) o
+  pub else-kept : is-done after ≡ false → after .store ≡ store
 
 -- when a data read shows data
-pub record MayRead (c : List ℕ) (room : ℕ) (s : Session) (o : Object) : Type 0 where
+pub record MayRead (c : List ℕ) (room : ℕ) (see : Seen) (o : Object) : Type 0 where
   pub command-well-formed : well-formed c ≡ true
-  pub read-condition-holds : holds s (o .lcso) (o .read) ≡ true
+  pub read-condition-holds : holds see (o .lcso) (o .read) ≡ true
   pub within-used : offset c + asked-length c ≤ used o
   pub answer-fits : 4 + asked-length c ≤ room
 
+-- what stands after a data read that shows, of these bytes, those asked for
+abbrev pub bytes-shown : (c content room store : List ℕ) → Session → After
+bytes-shown c content room store s =
+    record { outcome = 0; room = put-in-front (done-response (take (asked-length c) (drop (offset c) content))) room; store = store; session = s }
+
 -- a data read shows exactly the stored bytes asked for, and only when the read condition holds; it changes nothing stored
-pub record ReadsExactly (c room store : List ℕ) (s : Session) (o : Object) (a : After) : Type 0 where
-  pub when : MayRead c (length room) s o →
-      a ≡
-      record {
-        outcome = 0;
-        room = put-in-front (done-response (take (asked-length c) (drop (offset c) (o .content)))) room;
-        store = store;
-        session = flushed c s;
-      }
-  pub only-when : is-done a ≡ true → MayRead c (length room) s o
-  pub store-kept : a .store ≡ store
+pub record ReadsExactly (c room store : List ℕ) (s : Session) (os : List Object) (o : Object) (after : After) : Type 0 where
+  pub when : MayRead c (length room) (seen os s) o → after ≡ bytes-shown c (o .content) room store (flushed c s)
+  pub only-when : is-done after ≡ true → MayRead c (length room) (seen os s) o
+  pub store-kept : after .store ≡ store
 
 -- the byte of each object of the session: E0C0 the LcsG, F1C0 the LcsA, F1C2 the last error
 unfoldable pub session-byte : ℕ → Session → Option ℕ
@@ -160,30 +150,13 @@ pub record MayReadByte (c : List ℕ) (room : ℕ) (s : Session) (byte : ℕ) : 
 unfoldable pub after-byte : List ℕ → Session → Session
 after-byte c s = if eqb (object-number c) 0xF1C2 && leb 1 (asked-length c) then with-error 0 s else s
 
--- what stands after a data read that shows, of this byte, what is asked for
-abbrev pub byte-shown : List ℕ → ℕ → (room store : List ℕ) → Session → After
-byte-shown c byte room store s =
-    record {
-      outcome = 0;
-      room = put-in-front (done-response (take (asked-length c) (drop (offset c) (byte ∷ [])))) room;
-      store = store;
-      session = after-byte c s;
-    }
-
 -- what a data read that is done shows, with nothing assumed of store and session: they are sound, the application usable, the command
 -- well formed; and either the object is stored and its read condition holds, or it is one of the session's three
-pub data Shown (c room store : List ℕ) (s : Session) (a : After) : Type 0 where
-  of-object : (os : List Object) (o : Object) → Ready room store s os → find (object-number c) os ≡ some o → MayRead c (length room) s o →
-      a ≡
-      record {
-        outcome = 0;
-        room = put-in-front (done-response (take (asked-length c) (drop (offset c) (o .content)))) room;
-        store = store;
-        session = flushed c s;
-      } →
-      Shown c room store s a
+pub data Shown (c room store : List ℕ) (s : Session) (after : After) : Type 0 where
+  of-object : (os : List Object) (o : Object) → Ready room store s os → find (object-number c) os ≡ some o → MayRead c (length room) (seen os s) o →
+      after ≡ bytes-shown c (o .content) room store (flushed c s) → Shown c room store s after
   of-session : (os : List Object) (byte : ℕ) → Ready room store s os → MayReadByte c (length room) (flushed c s) byte →
-      a ≡ byte-shown c byte room store (flushed c s) → Shown c room store s a
+      after ≡ bytes-shown c (byte ∷ []) room store (after-byte c (flushed c s)) → Shown c room store s after
 
 -- the send-back case: an object's metadata read back, without C4 and C5, and the command that sends it in -------------------
 
@@ -200,7 +173,7 @@ sent-back o =
 
 -- a read or write command: first byte, the flush bit aside, 01 or 02, whatever its Param, well formed or not
 unfoldable pub reads-or-writes : List ℕ → Bool
-reads-or-writes c = names-object c
+reads-or-writes c = among (0x01 ∷ 0x02 ∷ []) (cmd c)
 
 -- the object number that a get or set names, in its fifth and sixth bytes; a shorter one names none
 unfoldable pub object-of : List ℕ → Option ℕ

@@ -1,10 +1,9 @@
--- Life cycles and access expressions: their form, their bytes, their limits, when they hold.
-use Prim.Native.Nat.{ℕ, _+_}
-use mathlib.Core.Bool.{Bool, true, false, _&&_, _||_}
+-- Life cycles and access expressions: their form, their bytes, their limits. When they hold is in Access.
+use Prim.Native.Nat.{ℕ, _+_, _/_}
+use mathlib.Core.Bool.{Bool, true, _&&_}
 use mathlib.Core.List.{List, [], _∷_, _++_}
 use mathlib.Core.Option.{Option, none, some}
-use lib.Dec.{eqb, ltb, leb}
-use Rattle.rules.specs.declared.Session.{Session}
+use lib.Dec.{eqb, leb}
 use Rattle.rules.specs.Basic.{if_then_else_, all, among, same}
 
 -- States: 01 creation, 03 initialisation, 07 operational, 0F termination
@@ -85,17 +84,27 @@ unfoldable pub groups : Groups → ℕ
 groups (only g) = 1
 groups (g or gs) = 1 + groups gs
 
-abbrev pub most-conditions : ℕ
-most-conditions = 7
+-- the size of the slot that holds an expression in a record: its length in one byte, and its bytes
+abbrev pub slot-size : ℕ
+slot-size = 28
+
+-- k conditions take 4k - 1 bytes, so that as many fit a slot of this size
+abbrev pub most-conditions : ℕ → ℕ
+most-conditions slot = slot / 4
 
 abbrev pub most-groups : ℕ
 most-groups = 3
 
--- at most 7 conditions in all, at most 3 groups
-unfoldable pub expression-allowed : Expression → Bool
-expression-allowed always = true
-expression-allowed never = true
-expression-allowed (when gs) = all (groups-allowed gs ∷ leb (conditions gs) most-conditions ∷ leb (groups gs) most-groups ∷ [])
+-- at most as many conditions in all as fit the slot, at most 3 groups
+unfoldable pub expression-allowed-with : ℕ → Expression → Bool
+expression-allowed-with slot always = true
+expression-allowed-with slot never = true
+expression-allowed-with slot (when gs) =
+    all (groups-allowed gs ∷ leb (conditions gs) (most-conditions slot) ∷ leb (groups gs) most-groups ∷ [])
+
+-- with the present slots: at most 7 conditions
+abbrev pub expression-allowed : Expression → Bool
+expression-allowed = expression-allowed-with slot-size
 
 -- reading -----------------------------------------------------------------------------------------------------------
 
@@ -121,38 +130,11 @@ read-expression b =
     if same b (0xFF ∷ []) then never else
     when (read-groups b)
 
--- the expression whose bytes these are, within the limits; none: not well formed
-unfoldable pub expression : List ℕ → Option Expression
-expression b =
+-- the expression whose bytes these are, within the limits of a slot of this size; none: not well formed
+unfoldable pub expression-with : ℕ → List ℕ → Option Expression
+expression-with slot b =
     let e = read-expression b in
-    if expression-allowed e && same (expression-bytes e) b then some e else none
+    if expression-allowed-with slot e && same (expression-bytes e) b then some e else none
 
--- when it holds -----------------------------------------------------------------------------------------------------
-
--- the present state that a condition speaks of, with the object's LcsO given
-unfoldable pub present : Session → ℕ → ℕ → ℕ
-present s lcso subject =
-    if eqb subject 0x70 then s .lcsg else
-    if eqb subject 0xE0 then s .lcsa else
-    lcso
-
--- it compares the present state to the reference as numbers
-unfoldable pub condition-holds : Session → ℕ → Condition → Bool
-condition-holds s lcso c =
-    let now = present s lcso (c .subject) in
-    if eqb (c .relation) 0xFA then eqb now (c .reference) else
-    if eqb (c .relation) 0xFB then ltb (c .reference) now else
-    ltb now (c .reference)
-
-unfoldable pub group-holds : Session → ℕ → Group → Bool
-group-holds s lcso (just c) = condition-holds s lcso c
-group-holds s lcso (c and g) = condition-holds s lcso c && group-holds s lcso g
-
-unfoldable pub groups-hold : Session → ℕ → Groups → Bool
-groups-hold s lcso (only g) = group-holds s lcso g
-groups-hold s lcso (g or gs) = group-holds s lcso g || groups-hold s lcso gs
-
-unfoldable pub holds : Session → ℕ → Expression → Bool
-holds s lcso always = true
-holds s lcso never = false
-holds s lcso (when gs) = groups-hold s lcso gs
+abbrev pub expression : List ℕ → Option Expression
+expression = expression-with slot-size

@@ -5,6 +5,7 @@ use mathlib.Core.List.{List, [], _∷_, map}
 use lib.Dec.{eqb}
 use lib.ListN.{length}
 use Rattle.rules.specs.declared.Session.{Session}
+use Rattle.rules.specs.declared.Kind.the-variants.{Data}
 use Rattle.rules.specs.Basic.{if_then_else_}
 use Rattle.rules.specs.Expression.{Expression, always, when, only, just}
 use Rattle.rules.specs.Object.{Object}
@@ -33,6 +34,7 @@ unfoldable pub made : Entry → Object
 made e =
     record {
       number = e .number;
+      kind = Data;
       maximum = e .maximum;
       lcso = 0x01;
       change = before-operational;

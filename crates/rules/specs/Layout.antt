@@ -1,5 +1,5 @@
 -- The store's bytes: `pack` lays objects out as records end to end, `unpack` reads them back. What is not the packing of
--- allowed objects is malformed.
+-- allowed objects is malformed. All of it over the size of a slot, then with the present one.
 use Prim.Native.Nat.{ℕ, zero, suc, _+_, _*_, _-_}
 use mathlib.Core.Bool.{Bool, _&&_}
 use mathlib.Core.List.{List, [], _∷_, _++_, map}
@@ -10,101 +10,133 @@ use Rattle.rules.specs.declared.Found.{Found}
 use Rattle.rules.specs.declared.Found.the-variants.{At, Nothing}
 use Rattle.rules.specs.declared.Slot.{Slot}
 use Rattle.rules.specs.declared.Slot.the-variants.{Change, Read, Execute}
-use Rattle.rules.specs.Basic.{if_then_else_, all, same, rising, joined, zeros, low-first, low-at}
+use Rattle.rules.specs.Basic.{if_then_else_, all, same, rising, joined, zeros, little-endian, little-endian-at}
 use Rattle.rules.specs.Expression.{Expression, expression-bytes, read-expression}
-use Rattle.rules.specs.Object.{Object, used, all-allowed}
+pub use Rattle.rules.specs.Expression.{slot-size}
+use Rattle.rules.specs.Object.{Object, used, kind-number, read-kind, all-allowed-with}
 
--- three slots of 28 bytes behind the first 12, then the data: a head of 96 bytes
-abbrev pub slot-size : ℕ
-slot-size = 28
-
+-- the slots stand behind the first 12 bytes
 abbrev pub slots-at : ℕ
 slots-at = 12
 
-abbrev pub head-size : ℕ
-head-size = slots-at + 3 * slot-size
-
--- how far into a record each slot begins
-unfoldable pub slot-at : Slot → ℕ
-slot-at Change = slots-at
-slot-at Read = slots-at + slot-size
-slot-at Execute = slots-at + 2 * slot-size
-
--- the kind of a record
-abbrev pub data-kind : ℕ
-data-kind = 0x0001
-
--- Length = 96 + maximum
-abbrev pub record-size : Object → ℕ
-record-size o = head-size + o .maximum
-
--- the bytes that the records take
-unfoldable pub size : List Object → ℕ
-size [] = 0
-size (o ∷ os) = record-size o + size os
-
--- 1 to 32 records, at most 16,384 bytes; object numbers strictly rising
-unfoldable pub objects-allowed : List Object → Bool
-objects-allowed os =
-    all
-    (leb 1 (length os) ∷
-    leb (length os) 32 ∷
-    leb (size os) 16384 ∷
-    rising (map (λ o. o .number) os) ∷
-    all-allowed os ∷ [])
-
--- packing: least significant byte first, length first --------------------------------------------------------------------
-
--- one slot: expression length 1, expression, zeros
-unfoldable pub slot-of : List ℕ → List ℕ
-slot-of b = length b ∷ b ++ zeros (slot-size - 1 - length b)
-
-unfoldable pub slot : Expression → List ℕ
-slot e = slot-of (expression-bytes e)
-
-unfoldable pub record-bytes : Object → List ℕ
-record-bytes o =
-    joined
-    ( -- length of the record 2, kind 2, object 2, maximum 2, used 2, LcsO 1, zero 1
-    low-first (record-size o) ∷ low-first data-kind ∷ low-first (o .number) ∷ low-first (o .maximum) ∷ low-first (used o) ∷ (o .lcso ∷ 0 ∷ []) ∷
-    -- three slots, for change, read, execute
-    slot (o .change) ∷ slot (o .read) ∷ slot (o .execute) ∷
-    -- data, maximum bytes; all bytes past used are zero
-    o .content ∷ zeros (o .maximum - used o) ∷ [])
-
-unfoldable pub pack : List Object → List ℕ
-pack [] = []
-pack (o ∷ os) = record-bytes o ++ pack os
-
--- reading back: the only objects that these bytes can be; what is not their packing is caught by `unpack` ------------------
-
+-- reading a slot: the only expression that its bytes can be
 unfoldable pub read-slot : List ℕ → Expression
 read-slot [] = read-expression []
 read-slot (n ∷ b) = read-expression (take n b)
 
-unfoldable pub read-record : List ℕ → Object
-read-record b =
-    record {
-      number = low-at 4 b;
-      maximum = low-at 6 b;
-      lcso = getD b 10 0;
-      change = read-slot (drop slots-at b);
-      read = read-slot (drop (slots-at + slot-size) b);
-      execute = read-slot (drop (slots-at + 2 * slot-size) b);
-      content = take (low-at 8 b) (drop head-size b);
-    }
+module _ (slot : ℕ) where
+  -- three slots, then the data
+  abbrev pub head-size-with : ℕ
+  head-size-with = slots-at + 3 * slot
 
--- at most n records, each as long as its first two bytes say
-unfoldable pub read-records : ℕ → List ℕ → List Object
-read-records zero b = []
-read-records (suc n) [] = []
-read-records (suc n) (x ∷ xs) = read-record (x ∷ xs) ∷ read-records n (drop (low-at 0 (x ∷ xs)) (x ∷ xs))
+  -- how far into a record each slot begins
+  unfoldable pub slot-at-with : Slot → ℕ
+  slot-at-with Change = slots-at
+  slot-at-with Read = slots-at + slot
+  slot-at-with Execute = slots-at + 2 * slot
 
--- the objects of a store; none: malformed
-unfoldable pub unpack : List ℕ → Option (List Object)
-unpack b =
-    let os = read-records 32 b in
-    if objects-allowed os && same (pack os) b then some os else none
+  -- Length = 96 + maximum, where slots have 28 bytes
+  abbrev pub record-size-with : Object → ℕ
+  record-size-with o = head-size-with + o .maximum
+
+  -- the bytes that the records take
+  unfoldable pub size-with : List Object → ℕ
+  size-with [] = 0
+  size-with (o ∷ os) = record-size-with o + size-with os
+
+  -- 1 to 32 records, at most 16,384 bytes; object numbers strictly rising
+  unfoldable pub objects-allowed-with : List Object → Bool
+  objects-allowed-with os =
+      all
+      (leb 1 (length os) ∷
+      leb (length os) 32 ∷
+      leb (size-with os) 16384 ∷
+      rising (map (λ o. o .number) os) ∷
+      all-allowed-with slot os ∷ [])
+
+  -- packing: least significant byte first, length first --------------------------------------------------------------------
+
+  -- one slot: expression length 1, expression, zeros
+  unfoldable pub slot-of-with : List ℕ → List ℕ
+  slot-of-with b = length b ∷ b ++ zeros (slot - 1 - length b)
+
+  unfoldable pub record-bytes-with : Object → List ℕ
+  record-bytes-with o =
+      joined
+      ( -- length of the record 2, kind 2, object 2, maximum 2, used 2, LcsO 1, zero 1
+      little-endian (record-size-with o) ∷ little-endian (kind-number (o .kind)) ∷ little-endian (o .number) ∷
+      little-endian (o .maximum) ∷ little-endian (used o) ∷ (o .lcso ∷ 0 ∷ []) ∷
+      -- three slots, for change, read, execute
+      slot-of-with (expression-bytes (o .change)) ∷ slot-of-with (expression-bytes (o .read)) ∷ slot-of-with (expression-bytes (o .execute)) ∷
+      -- data, maximum bytes; all bytes past used are zero
+      o .content ∷ zeros (o .maximum - used o) ∷ [])
+
+  unfoldable pub pack-with : List Object → List ℕ
+  pack-with [] = []
+  pack-with (o ∷ os) = record-bytes-with o ++ pack-with os
+
+  -- reading back: the only objects that these bytes can be; what is not their packing is caught by `unpack` ------------------
+
+  unfoldable pub read-record-with : List ℕ → Object
+  read-record-with b =
+      record {
+        number = little-endian-at 4 b;
+        kind = read-kind (little-endian-at 2 b);
+        maximum = little-endian-at 6 b;
+        lcso = getD b 10 0;
+        change = read-slot (drop slots-at b);
+        read = read-slot (drop (slots-at + slot) b);
+        execute = read-slot (drop (slots-at + 2 * slot) b);
+        content = take (little-endian-at 8 b) (drop head-size-with b);
+      }
+
+  -- at most n records, each as long as its first two bytes say
+  unfoldable pub read-records-with : ℕ → List ℕ → List Object
+  read-records-with zero b = []
+  read-records-with (suc n) [] = []
+  read-records-with (suc n) (x ∷ xs) = read-record-with (x ∷ xs) ∷ read-records-with n (drop (little-endian-at 0 (x ∷ xs)) (x ∷ xs))
+
+  -- the objects of a store; none: malformed
+  unfoldable pub unpack-with : List ℕ → Option (List Object)
+  unpack-with b =
+      let os = read-records-with 32 b in
+      if objects-allowed-with os && same (pack-with os) b then some os else none
+
+-- with the present slots: three of 28 bytes, a head of 96 ------------------------------------------------------------------
+
+abbrev pub head-size : ℕ
+head-size = head-size-with slot-size
+
+abbrev pub slot-at : Slot → ℕ
+slot-at = slot-at-with slot-size
+
+abbrev pub record-size : Object → ℕ
+record-size = record-size-with slot-size
+
+abbrev pub size : List Object → ℕ
+size = size-with slot-size
+
+abbrev pub objects-allowed : List Object → Bool
+objects-allowed = objects-allowed-with slot-size
+
+abbrev pub slot-of : List ℕ → List ℕ
+slot-of = slot-of-with slot-size
+
+-- the slot of an expression
+abbrev pub slot : Expression → List ℕ
+slot e = slot-of (expression-bytes e)
+
+abbrev pub record-bytes : Object → List ℕ
+record-bytes = record-bytes-with slot-size
+
+abbrev pub pack : List Object → List ℕ
+pack = pack-with slot-size
+
+abbrev pub read-record : List ℕ → Object
+read-record = read-record-with slot-size
+
+abbrev pub unpack : List ℕ → Option (List Object)
+unpack = unpack-with slot-size
 
 -- objects by their numbers ---------------------------------------------------------------------------------------------
 

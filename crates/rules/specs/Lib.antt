@@ -11,8 +11,10 @@ pub mod Object
 pub mod Layout
 pub mod Factory
 pub mod Session
+pub mod Access
 -- Reading and writing
 pub mod Metadata
+pub mod Chain
 pub mod Operation
 -- When the element says no, in this order
 pub mod Refusals

@@ -5,7 +5,7 @@ use mathlib.Core.List.{List, [], _∷_, _++_, map}
 use mathlib.Core.Option.{Option, none, some}
 use lib.Dec.{eqb, leb}
 use lib.ListN.{length, getD, take, drop}
-use Rattle.rules.specs.Basic.{if_then_else_, all, among, same, rising, high-first, is-some, or-else}
+use Rattle.rules.specs.Basic.{if_then_else_, all, among, same, rising, big-endian, is-some, or-else}
 use Rattle.rules.specs.Expression.{Expression, expression, expression-bytes, may-become}
 use Rattle.rules.specs.Object.{Object, used}
 
@@ -24,7 +24,7 @@ fields-bytes (f ∷ fs) = f .tag ∷ length (f .value) ∷ f .value ++ fields-by
 -- C0 (LcsO, 1), C4 (maximum, 2), C5 (used, 2), D0 (change), D1 (read), D3 (execute)
 unfoldable pub object-fields : Object → List Field
 object-fields o =
-    field 0xC0 (o .lcso ∷ []) ∷ field 0xC4 (high-first (o .maximum)) ∷ field 0xC5 (high-first (used o)) ∷
+    field 0xC0 (o .lcso ∷ []) ∷ field 0xC4 (big-endian (o .maximum)) ∷ field 0xC5 (big-endian (used o)) ∷
     field 0xD0 (expression-bytes (o .change)) ∷ field 0xD1 (expression-bytes (o .read)) ∷ field 0xD3 (expression-bytes (o .execute)) ∷ []
 
 -- 20, L, then L bytes
@@ -89,6 +89,7 @@ unfoldable pub with-fields : List Field → Object → Object
 with-fields fs o =
     record {
       number = o .number;
+      kind = o .kind;
       maximum = o .maximum;
       lcso = sent-state (value-of 0xC0 fs) (o .lcso);
       change = sent-expression (value-of 0xD0 fs) (o .change);

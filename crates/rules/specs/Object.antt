@@ -1,17 +1,50 @@
 -- What an object holds on the controller.
 use Prim.Native.Nat.{ℕ}
-use mathlib.Core.Bool.{Bool, true, not, _&&_}
+use mathlib.Core.Bool.{Bool, true, false, not, _&&_, _||_}
 use mathlib.Core.List.{List, [], _∷_}
-use lib.Dec.{ltb, leb}
+use lib.Dec.{eqb, ltb, leb}
 use lib.ListN.{length}
+use Rattle.rules.specs.declared.Kind.{Kind}
+use Rattle.rules.specs.declared.Kind.the-variants.{Data, LifeCycle, Status}
 use Rattle.rules.specs.declared.Slot.{Slot}
 use Rattle.rules.specs.declared.Slot.the-variants.{Change, Read, Execute}
 use Rattle.rules.specs.Basic.{all, among}
-use Rattle.rules.specs.Expression.{Expression, expression-allowed, is-state}
+use Rattle.rules.specs.Expression.{Expression, slot-size, expression-allowed-with, is-state}
+
+-- kinds -------------------------------------------------------------------------------------------------------------
+
+-- the number of each kind, in the records of that kind; those of the session stand in no record, and their numbers are past two bytes
+unfoldable pub kind-number : Kind → ℕ
+kind-number Data = 0x0001
+kind-number LifeCycle = 0x10001
+kind-number Status = 0x10002
+
+-- the only kind that a record of this number can be; what is not its number is caught by `unpack`
+unfoldable pub read-kind : ℕ → Kind
+read-kind n = Data
+
+-- one kind is the other
+unfoldable pub is : Kind → Kind → Bool
+is k l = eqb (kind-number k) (kind-number l)
+
+-- kinds of the session's objects: a life cycle, or what the element tells of itself
+unfoldable pub of-session : Kind → Bool
+of-session k = is LifeCycle k || is Status k
+
+-- what the data of a record of each kind must be, with its maximum, beside used at most maximum
+unfoldable pub data-allowed : Kind → ℕ → List ℕ → Bool
+-- any bytes
+data-allowed Data maximum content = true
+-- not in a store
+data-allowed LifeCycle maximum content = false
+data-allowed Status maximum content = false
+
+-- objects -----------------------------------------------------------------------------------------------------------
 
 -- content is the data up to used, so used is its length; all bytes past used are zero
 pub record Object : Type 0 where
   pub number : ℕ
+  pub kind : Kind
   pub maximum : ℕ
   pub lcso : ℕ
   pub change : Expression
@@ -32,9 +65,9 @@ expression-in Execute o = o .execute
 unfoldable pub in-session : ℕ → Bool
 in-session n = among (0xE0C0 ∷ 0xF1C0 ∷ 0xF1C2 ∷ []) n
 
--- an object that may stand in a store
-unfoldable pub object-allowed : Object → Bool
-object-allowed o =
+-- an object that may stand in a store with slots of this size
+unfoldable pub object-allowed-with : ℕ → Object → Bool
+object-allowed-with slot o =
     all
     ( -- a number of two bytes; E0C0, F1C0 and F1C2 may not occur
     ltb (o .number) 0x10000 ∷
@@ -45,10 +78,33 @@ object-allowed o =
     leb (used o) (o .maximum) ∷
     -- LcsO one of the four; expressions well formed
     is-state (o .lcso) ∷
-    expression-allowed (o .change) ∷
-    expression-allowed (o .read) ∷
-    expression-allowed (o .execute) ∷ [])
+    expression-allowed-with slot (o .change) ∷
+    expression-allowed-with slot (o .read) ∷
+    expression-allowed-with slot (o .execute) ∷
+    -- data as its kind has it
+    data-allowed (o .kind) (o .maximum) (o .content) ∷ [])
 
-unfoldable pub all-allowed : List Object → Bool
-all-allowed [] = true
-all-allowed (o ∷ os) = object-allowed o && all-allowed os
+unfoldable pub all-allowed-with : ℕ → List Object → Bool
+all-allowed-with slot [] = true
+all-allowed-with slot (o ∷ os) = object-allowed-with slot o && all-allowed-with slot os
+
+-- with the present slots
+abbrev pub object-allowed : Object → Bool
+object-allowed = object-allowed-with slot-size
+
+abbrev pub all-allowed : List Object → Bool
+all-allowed = all-allowed-with slot-size
+
+-- an object with other data
+unfoldable pub with-content : List ℕ → Object → Object
+with-content b o =
+    record {
+      number = o .number;
+      kind = o .kind;
+      maximum = o .maximum;
+      lcso = o .lcso;
+      change = o .change;
+      read = o .read;
+      execute = o .execute;
+      content = b;
+    }

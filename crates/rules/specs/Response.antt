@@ -5,10 +5,10 @@ use lib.ListN.{length, drop}
 use Rattle.rules.specs.declared.Refusal.{Refusal}
 use Rattle.rules.specs.declared.Refusal.the-variants.{InvalidObject, InvalidParam, InvalidLength, InvalidData, InternalError}
 use Rattle.rules.specs.declared.Refusal.the-variants.{AccessDenied, BoundaryExceeded, InvalidCommand, NotAvailable, InsufficientBuffer}
-use Rattle.rules.specs.Basic.{high-first}
+use Rattle.rules.specs.Basic.{big-endian}
 
 -- the manuals' code of each refusal
-unfoldable pub code : Refusal → ℕ
+abbrev pub code : Refusal → ℕ
 code InvalidObject = 0x01
 code InvalidParam = 0x03
 code InvalidLength = 0x04
@@ -22,7 +22,7 @@ code InsufficientBuffer = 0x0D
 
 -- status (1), one byte that is always 00, OutLen (2), OutData; status 00 is done
 unfoldable pub done-response : List ℕ → List ℕ
-done-response out = (0x00 ∷ 0x00 ∷ high-first (length out)) ++ out
+done-response out = (0x00 ∷ 0x00 ∷ big-endian (length out)) ++ out
 
 -- status FF is refused
 unfoldable pub refused-response : List ℕ

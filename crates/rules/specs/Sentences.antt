@@ -464,6 +464,9 @@ session-cases =
     hex "02 00 00 06 E0 C0 00 00 0F 0F" refused 0x08 leaving 0x08 ∷
     hex "02 00 00 05 F1 C0 00 01 0F" refused 0x08 leaving 0x08 ∷ [])
     (session true 0x07 0x03 0x08) ∷
+    -- it changes nothing else of the session
+    talk three (session true 0x01 0x03 0x0A) (hex "02 00 00 05 E0 C0 00 00 07" gives done-empty ∷ []) (session true 0x07 0x03 0x0A) ∷
+    talk three (session true 0x01 0x03 0x0A) (hex "02 40 00 05 F1 C0 00 00 07" gives done-empty ∷ []) (session true 0x01 0x07 0x0A) ∷
     -- the store stays
     stores three (opened 0x00) (hex "02 00 00 05 E0 C0 00 00 03" gives done-empty ∷ hex "02 40 00 05 F1 C0 00 00 07" gives done-empty ∷ []) three ∷
     -- metadata of these three is 07
@@ -508,6 +511,10 @@ data-cases =
     -- erase and write zeroes all data first, and used becomes offset + length
     stores three (opened 0x00) (hex "02 40 00 05 F1 D0 00 01 AA" gives done-empty ∷ [])
     (by-hand (hex "64 00 01 00 D0 F1 04 00 02 00 01 00") "03 E1 FC 07" "01 00" "01 00" (hex "00 AA 00 00") ++ second-record ++ third-record) ∷
+    -- reads and writes of stored objects that are done change nothing of the session
+    talk three (session true 0x03 0x07 0x0A)
+    (hex "01 00 00 06 F1 D0 00 00 00 03" gives hex "00 00 00 03 0A 0B 0C" ∷ hex "02 00 00 05 F1 D1 00 00 AA" gives done-empty ∷ hex "02 40 00 05 F1 D1 00 00 AA" gives done-empty ∷ [])
+    (session true 0x03 0x07 0x0A) ∷
     -- writes ask the change expression as stored before the command
     talk three (opened 0x00)
     (hex "02 01 00 0A F1 D0 20 06 C0 01 07 D0 01 FF" gives done-empty ∷
@@ -516,6 +523,18 @@ data-cases =
     hex "02 01 00 0A F1 D0 20 06 C0 01 07 D0 01 00" refused 0x07 leaving 0x07 ∷
     hex "01 00 00 06 F1 D0 00 00 00 03" gives hex "00 00 00 03 0A 0B 0C" ∷ [])
     (opened 0x07) ∷
+    -- at the life cycles of now: LcsG for the change expression here, LcsA for the read expression
+    talk (by-hand (hex "64 00 01 00 D0 F1 04 00 03 00 01 00") "03 70 FA 03" "03 E0 FB 01" "01 00" (hex "0A 0B 0C 00")) (opened 0x00)
+    (hex "02 00 00 05 F1 D0 00 00 AA" refused 0x07 leaving 0x07 ∷
+    hex "01 00 00 06 F1 D0 00 00 00 01" refused 0x07 leaving 0x07 ∷
+    hex "02 00 00 05 E0 C0 00 00 03" gives done-empty ∷
+    hex "02 00 00 05 F1 D0 00 00 AA" gives done-empty ∷
+    hex "01 00 00 06 F1 D0 00 00 00 01" refused 0x07 leaving 0x07 ∷
+    hex "02 00 00 05 F1 C0 00 00 03" gives done-empty ∷
+    hex "01 00 00 06 F1 D0 00 00 00 02" gives hex "00 00 00 02 AA 0B" ∷
+    hex "02 00 00 05 E0 C0 00 00 07" gives done-empty ∷
+    hex "02 00 00 05 F1 D0 00 00 BB" refused 0x07 leaving 0x07 ∷ [])
+    (session true 0x07 0x03 0x07) ∷
     -- of a life cycle state that no longer holds
     talk (by-hand (hex "64 00 01 00 D0 F1 04 00 03 00 07 00") "03 E1 FC 07" "03 E1 FC 07" "01 00" (hex "0A 0B 0C 00")) (opened 0x00)
     (hex "02 00 00 05 F1 D0 00 00 AA" refused 0x07 leaving 0x07 ∷

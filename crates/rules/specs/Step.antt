@@ -8,14 +8,15 @@ use Rattle.rules.specs.declared.Session.{Session}
 use Rattle.rules.specs.declared.Refusal.{Refusal}
 use Rattle.rules.specs.declared.Verdict.{Verdict}
 use Rattle.rules.specs.declared.Verdict.the-variants.{Refused, Accepted}
-use Rattle.rules.specs.Basic.{if_then_else_, or-else}
-use Rattle.rules.specs.Command.{asks-flush}
+use Rattle.rules.specs.Basic.{if_then_else_, is-some, or-else}
+use Rattle.rules.specs.Command.{asks-flush, row}
 use Rattle.rules.specs.Response.{code, done-response, refused-response, put-in-front}
 use Rattle.rules.specs.Object.{Object}
 use Rattle.rules.specs.Layout.{pack, unpack, replaced}
 use Rattle.rules.specs.Session.{with-error}
-use Rattle.rules.specs.Operation.{Operation, named, requested}
-use Rattle.rules.specs.Refusals.{verdict}
+use Rattle.rules.specs.Access.{seen}
+use Rattle.rules.specs.Operation.{Operation}
+use Rattle.rules.specs.Refusals.{ruling, verdict}
 
 -- what stands after a command
 pub record After : Type 0 where
@@ -31,27 +32,31 @@ raised n s = with-error (max (s .error) n) s
 unfoldable pub declined : Refusal → List ℕ → List ℕ → Session → After
 declined r room store s = record { outcome = 0; room = put-in-front refused-response room; store = store; session = raised (code r) s }
 
--- the store with an object in place of the one of its number; with none, the same store
-unfoldable pub stored : Option Object → List ℕ → List Object → List ℕ
-stored none store os = store
-stored (some o) store os = pack (replaced o os)
+-- the objects with one in place of the one of its number; with none, the same
+unfoldable pub replacing : Option Object → List Object → List Object
+replacing none os = os
+replacing (some o) os = replaced o os
 
-unfoldable pub performed : Operation → List ℕ → List ℕ → List Object → After
-performed p room store os =
+unfoldable pub performed : Operation → List ℕ → List Object → After
+performed p room os =
     record {
       outcome = 0;
       room = put-in-front (done-response (p .answer)) room;
-      store = stored (p .stores) store os;
+      store = pack (replacing (p .stores) os);
       session = p .session;
     }
 
-unfoldable pub answered : Verdict → List ℕ → List ℕ → List ℕ → List Object → Session → After
-answered (Refused r) c room store os s = declined r room store s
-answered Accepted c room store os s = performed (requested c (named c os s) s) room store os
+-- what comes of a verdict
+unfoldable pub answered : Verdict → Operation → List ℕ → List ℕ → List Object → Session → After
+answered (Refused r) p room store os s = declined r room store s
+answered Accepted p room store os s = performed p room os
 
 -- steps 2 to 13; `objects`: those of the store, none where it is malformed
 unfoldable pub judged : List ℕ → List ℕ → List ℕ → Option (List Object) → Session → After
-judged c room store objects s = answered (verdict c (length room) objects s) c room store (or-else objects []) s
+judged c room store objects s =
+    let os = or-else objects [] in
+    let see = seen os s in
+    answered (verdict (is-some objects) c (length room) see) (ruling (row c) c see .does) room store os s
 
 -- If the top bit of Cmd is set, the last error becomes 0 before any other judgment.
 unfoldable pub flushed : List ℕ → Session → Session

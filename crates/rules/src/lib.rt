@@ -37,16 +37,34 @@ pub enum Verdict {
     Accepted,
 }
 
-// The row of the command table that Cmd and Param name.
-pub enum Row {
+// The kind of an object: that of a record, or one of the session's.
+pub enum Kind {
+    Data,
+    LifeCycle,
+    Status,
+}
+
+// What a command does with the object that it names.
+pub enum Action {
     GetData,
     GetMetadata,
     Write,
     EraseAndWrite,
     SetMetadata,
+}
+
+// The row of the command table that Cmd and Param name.
+pub enum Row {
+    OnObject(Action),
     OpenApplication,
     CloseApplication,
     Unknown,
+}
+
+// How many bytes InData may have.
+pub struct Sizes {
+    pub least: usize,
+    pub most: usize,
 }
 
 // Where the record of an object begins in the store.

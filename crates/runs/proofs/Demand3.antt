@@ -98,34 +98,24 @@ alike : {xs ys zs : List Turn} (m : Mix xs ys zs) (k : Kept) → TwoLists xs ys 
 unfolding run
 alike {xs} {ys} {zs} m k two mix here there p q r =
     let d : Mixed reply left xs ys zs m k = lists-mix m k two in
-    record {
-      first-here = rw (p, q) (d .first-here);
-      second-here = rw (p, q) (d .second-here);
-      first-there = rw (p, r) (d .first-there);
-      second-there = rw (p, r) (d .second-there);
-      store-here = rw (p, q) (ap (λ (e : Kept). e .store) (d .end-here));
-      store-there = rw (p, r) (ap (λ (e : Kept). e .store) (d .end-there));
-      session-here = rw (p, q) (ap (λ (e : Kept). e .session) (d .end-here));
-      session-there = rw (p, r) (ap (λ (e : Kept). e .session) (d .end-there));
-      mix-by-rules = p;
-      here-by-rules = q;
-      there-by-rules = r;
-    }
+    let stores-here = ap (λ (e : Kept). e .store) (d .end-here) in
+    let stores-there = ap (λ (e : Kept). e .store) (d .end-there) in
+    let sessions-here = ap (λ (e : Kept). e .session) (d .end-here) in
+    let sessions-there = ap (λ (e : Kept). e .session) (d .end-there) in
+    rw (p, q, r) search
 
 -- Demand 3 of any host that calls `execute` itself: for any two lists as the demand takes them, every mix of them, and any beginning
 pub calls-mix : {xs ys zs : List Turn} (m : Mix xs ys zs) (k : Kept) → TwoLists xs ys
     → {mix here there : Ran} → Calls zs k mix → Calls (xs ++ ys) k here → Calls (ys ++ xs) k there
     → SideBySide m k mix here there
-calls-mix m k two {mix} {here} {there} a b c =
-    alike m k two mix here there (calls-by-rules a) (calls-by-rules b) (calls-by-rules c)
+calls-mix m k two {mix} {here} {there} a b c = alike m k two mix here there (calls-by-rules a) (calls-by-rules b) (calls-by-rules c)
 
 -- and of the library's `run`, which makes such calls
 pub runs-mix : {xs ys zs : List Turn} (m : Mix xs ys zs) (k : Kept) → TwoLists xs ys
     → (mix here there : LibraryRun) → IsRun mix → IsRun here → IsRun there
     → Given zs k (mix .lent) → Given (xs ++ ys) k (here .lent) → Given (ys ++ xs) k (there .lent)
     → SideBySide m k (ran mix) (ran here) (ran there)
-runs-mix m k two mix here there a b c p q r =
-    calls-mix m k two (run-is-calls mix a p) (run-is-calls here b q) (run-is-calls there c r)
+runs-mix m k two mix here there a b c p q r = calls-mix m k two (run-is-calls mix a p) (run-is-calls here b q) (run-is-calls there c r)
 
 -- `side_by_side`
 pub three-runs : (mix here there : LibraryRun) → IsRun mix → IsRun here → IsRun there → ThreeRuns mix here there

@@ -17,14 +17,9 @@ cut-back : (ts : List Turn)
 unfolding cut flatMap
 cut-back [] = refl
 cut-back (t ∷ ts) =
-    rw (
-      fit (t .command) (flatMap (λ (t : Turn). t .command) ts),
-      fit (t .room) (flatMap (λ (t : Turn). t .room) ts),
-      take-at (t .command) (flatMap (λ (t : Turn). t .command) ts) (length (t .command)) refl,
-      take-at (t .room) (flatMap (λ (t : Turn). t .room) ts) (length (t .room)) refl,
-      drop-at (t .command) (flatMap (λ (t : Turn). t .command) ts) (length (t .command)) refl,
-      drop-at (t .room) (flatMap (λ (t : Turn). t .room) ts) (length (t .room)) refl,
-    )
+    let c = flatMap (λ (t : Turn). t .command) ts in
+    let r = flatMap (λ (t : Turn). t .room) ts in
+    rw (fit (t .command) c, fit (t .room) r, take-at (t .command) c _ refl, take-at (t .room) r _ refl, drop-at (t .command) c _ refl, drop-at (t .room) r _ refl)
     (ap (λ l. t ∷ l) (cut-back ts))
   where
     fit : (a b : List ℕ) → min (length a) (length (a ++ b)) ≡ length a

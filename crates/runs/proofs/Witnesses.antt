@@ -25,41 +25,13 @@ unfolding all
 bytes [] h = tt
 bytes (n ∷ l) h = (ltb-true n 256 (and-left (ltb n 256) _ h), bytes l (and-right (ltb n 256) _ h))
 
-room-bytes : All (λ n. n < 256) room
-unfolding room all
-room-bytes = bytes room refl
-
-P3-bytes : All (λ n. n < 256) P3
-unfolding P3 hex pairs digits ascii all
-P3-bytes = bytes P3 refl
-
-P4-bytes : All (λ n. n < 256) P4
-unfolding P4 hex pairs digits ascii all
-P4-bytes = bytes P4 refl
-
-last-byte-bytes : All (λ n. n < 256) last-byte
-unfolding last-byte hex pairs digits ascii all
-last-byte-bytes = bytes last-byte refl
-
-last-byte-back-bytes : All (λ n. n < 256) last-byte-back
-unfolding last-byte-back hex pairs digits ascii all
-last-byte-back-bytes = bytes last-byte-back refl
-
-commands-fit : length (flatMap (λ (t : Turn). t .command) in-turn) < 2 ^ 63
-unfolding in-turn P3 P4 last-byte last-byte-back hex pairs digits ascii flatMap
-commands-fit = let n : length (flatMap (λ (t : Turn). t .command) in-turn) ≡ 45 = refl in omega arith
-
-rooms-fit : length (flatMap (λ (t : Turn). t .room) in-turn) < 2 ^ 63
-unfolding in-turn room flatMap
-rooms-fit = let n : length (flatMap (λ (t : Turn). t .room) in-turn) ≡ 256 = refl in omega arith
-
-count-fits : 8 * length in-turn < 2 ^ 63
-unfolding in-turn
-count-fits = let n : length in-turn ≡ 4 = refl in omega arith
-
 pub in-turn-fits : Fitting in-turn
-unfolding in-turn flatMap
-in-turn-fits = search (P3-bytes, P4-bytes, last-byte-bytes, last-byte-back-bytes, room-bytes, commands-fit, rooms-fit, count-fits) depth 8
+unfolding in-turn P3 P4 last-byte last-byte-back room hex pairs digits ascii all flatMap
+in-turn-fits =
+    let commands : length (flatMap (λ (t : Turn). t .command) in-turn) ≡ 45 = refl in
+    let rooms : length (flatMap (λ (t : Turn). t .room) in-turn) ≡ 256 = refl in
+    let count : length in-turn ≡ 4 = refl in
+    search (bytes P3 refl, bytes P4 refl, bytes last-byte refl, bytes last-byte-back refl, bytes room refl, arith) depth 8
 
 pub in-turn-laid-out : InTypes (laid-out in-turn begun) × Given in-turn begun (laid-out in-turn begun)
 in-turn-laid-out = every-list-laid-out in-turn begun in-turn-fits

@@ -3,13 +3,15 @@ use Prim.Native.Nat.{ℕ, zero, suc}
 use mathlib.Core.Path.{_≡_}
 use mathlib.Core.List.{List, [], _∷_, _++_}
 use lib.ListN.{length, getD, take, drop}
+use denote.Ref.{RefT, now}
+use denote.Triple.Both.{Both}
 use Rattle.mixing.specs.Runs.{Mix, of-first, of-second}
 use Rattle.rules.specs.declared.Session.{Session}
 use Rattle.rules.specs.Run.{Turn, Reply, Kept, Ran, run}
 use Rattle.rules.specs.Demand.{TwoLists}
 use Rattle.element.specs.declared.Answer.{Answer}
 use Rattle.element.specs.Executed.{Executes}
-use Rattle.runs.specs.Lists.{Lent, Returned, Given, width, by-rules}
+use Rattle.runs.specs.Lists.{Lent, Returned, Given, width, by-rules, lent, returned}
 
 -- Three runs side by side, from one beginning k: of the mix, of the first list and then the second (here), and of the second and
 -- then the first (there).
@@ -38,6 +40,17 @@ pub record LibraryRun : Type 0 where
 
 abbrev pub library-run : Lent → Returned → LibraryRun
 library-run l r = record { lent = l; left = r }
+
+-- a slice that is lent: as it was, and as it came back
+abbrev pub Slice : Type 0
+Slice = Both (RefT (List ℕ)) (RefT (List ℕ))
+
+-- a call by its parameters and its result
+abbrev pub called : (commands sizes store : Slice) → Session → (rooms spaces outcomes : Slice) → Session → LibraryRun
+called commands sizes store session rooms spaces outcomes r =
+    library-run
+    (lent (now (commands .entry)) (now (sizes .entry)) (now (rooms .entry)) (now (spaces .entry)) (now (outcomes .entry)) (now (store .entry)) session)
+    (returned (now (rooms .exit)) (now (outcomes .exit)) (now (store .exit)) r)
 
 -- what the contract of `run` says of a call
 abbrev pub IsRun : LibraryRun → Type 0

@@ -6,7 +6,7 @@ use lib.ListN.{length, getD, take, drop}
 use Rattle.mixing.specs.Runs.{All}
 use Rattle.rules.specs.declared.Session.{Session}
 use Rattle.rules.specs.Basic.{zeros}
-use Rattle.rules.specs.Step.{After}
+use Rattle.rules.specs.Step.{After, step}
 use Rattle.rules.specs.Run.{Turn, Reply, Kept, run}
 use Rattle.primitives.specs.Bytes.{over}
 
@@ -74,6 +74,10 @@ lent commands sizes rooms spaces outcomes store session =
 
 abbrev pub returned : (rooms outcomes store : List ℕ) → Session → Returned
 returned rooms outcomes store session = record { rooms = rooms; outcomes = outcomes; store = store; session = session }
+
+-- the rules' answer to the command of n bytes at `at`, in the room of m bytes at `to`
+abbrev pub told : (commands rooms store : List ℕ) → Session → (at n to m : ℕ) → After
+told commands rooms store session at n to m = step (take n (drop at commands)) (take m (drop to rooms)) store session
 
 -- a command's answer with its room at its place among all rooms
 abbrev pub in-place : ℕ → List ℕ → After → After

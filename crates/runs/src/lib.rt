@@ -3,18 +3,17 @@ use element::Answer;
 use rules::Session;
 ghost use mathlib.Core.Path.{_≡_};
 ghost use Prim.Native.Nat.{_+_, _≤_, min};
-ghost use lib.ListN.{length, getD, take, drop};
-ghost use Rattle.rules.specs.Step.{step};
+ghost use lib.ListN.{length, getD};
 ghost use Rattle.element.specs.Executed.{executed};
-ghost use Rattle.runs.specs.Lists.{lent, returned, in-place};
-ghost use Rattle.runs.specs.Demand.{ThreeRuns, IsRun, library-run};
+ghost use Rattle.runs.specs.Lists.{told, in-place};
+ghost use Rattle.runs.specs.Demand.{ThreeRuns, IsRun, called};
 
 // The size at i, or 0 where there is none, but no more than is left.
 fn fitted(sizes: &[usize], i: usize, left: usize) -> usize
     ensures { λ r. ⌜ r ≡ min (getD (now (sizes .entry)) i 0) left ⌝ }
 {
     if i < sizes.len() {
-        return primitives::smaller(sizes[i], left);
+        return primitives::min(sizes[i], left);
     }
     0
 }
@@ -32,7 +31,7 @@ fn turn(
 ) -> Answer
     requires { ⌜ (at + n ≤ length (now commands)) × (to + m ≤ length (now rooms)) ⌝ }
     ensures { λ r. ⌜ executed r (now (rooms .exit)) (now (store .exit))
-        ≡ in-place to (now (rooms .entry)) (step (take n (drop at (now (commands .entry)))) (take m (drop to (now (rooms .entry)))) (now (store .entry)) session) ⌝ }
+        ≡ in-place to (now (rooms .entry)) (told (now (commands .entry)) (now (rooms .entry)) (now (store .entry)) session at n to m) ⌝ }
 {
     let end = at + n;
     let stop = to + m;
@@ -51,9 +50,7 @@ pub fn run(
     spaces: &[usize],
     outcomes: &mut [u8],
 ) -> Session
-    ensures { λ r. ⌜ IsRun (library-run
-        (lent (now (commands .entry)) (now (sizes .entry)) (now (rooms .entry)) (now (spaces .entry)) (now (outcomes .entry)) (now (store .entry)) session)
-        (returned (now (rooms .exit)) (now (outcomes .exit)) (now (store .exit)) r)) ⌝ }
+    ensures { λ r. ⌜ IsRun (called commands sizes store session rooms spaces outcomes r) ⌝ }
 {
     let mut kept = session;
     let mut at: usize = 0;
@@ -103,12 +100,9 @@ pub fn side_by_side(
     session: Session,
 ) -> Sessions
     ensures { λ r. ⌜ ThreeRuns
-        (library-run (lent (now («mix_commands» .entry)) (now («mix_sizes» .entry)) (now («mix_rooms» .entry)) (now («mix_spaces» .entry)) (now («mix_outcomes» .entry)) (now («mix_store» .entry)) session)
-        (returned (now («mix_rooms» .exit)) (now («mix_outcomes» .exit)) (now («mix_store» .exit)) (r .mix)))
-        (library-run (lent (now («here_commands» .entry)) (now («here_sizes» .entry)) (now («here_rooms» .entry)) (now («here_spaces» .entry)) (now («here_outcomes» .entry)) (now («here_store» .entry)) session)
-        (returned (now («here_rooms» .exit)) (now («here_outcomes» .exit)) (now («here_store» .exit)) (r .here)))
-        (library-run (lent (now («there_commands» .entry)) (now («there_sizes» .entry)) (now («there_rooms» .entry)) (now («there_spaces» .entry)) (now («there_outcomes» .entry)) (now («there_store» .entry)) session)
-        (returned (now («there_rooms» .exit)) (now («there_outcomes» .exit)) (now («there_store» .exit)) (r .there))) ⌝ }
+        (called «mix_commands» «mix_sizes» «mix_store» session «mix_rooms» «mix_spaces» «mix_outcomes» (r .mix))
+        (called «here_commands» «here_sizes» «here_store» session «here_rooms» «here_spaces» «here_outcomes» (r .here))
+        (called «there_commands» «there_sizes» «there_store» session «there_rooms» «there_spaces» «there_outcomes» (r .there)) ⌝ }
 {
     let mix = run(
         mix_commands,

@@ -11,21 +11,18 @@ use lib.Dec.{eqb}
 use lib.ListN.{length, drop}
 use lib.Seq.{drop-at}
 use Rattle.rules.specs.declared.Found.the-variants.{At, Nothing}
-use Rattle.rules.specs.declared.Slot.{Slot}
-use Rattle.rules.specs.Basic.{if_then_else_, is-some, rising}
-use Rattle.rules.specs.Expression.{expression, expression-bytes}
-use Rattle.rules.specs.Object.{Object, object-allowed, all-allowed, expression-in}
-use Rattle.rules.specs.Layout.{head-size, record-size, size, objects-allowed, record-bytes, pack, unpack}
+use Rattle.rules.specs.Basic.{if_then_else_, rising}
+use Rattle.rules.specs.Object.{Object, object-allowed, all-allowed, all-allowed-with}
+use Rattle.rules.specs.Layout.{head-size, record-size, size, objects-allowed, record-bytes, pack, unpack, pack-with, size-with}
 use Rattle.rules.specs.Layout.{find, replaced, found-behind, found}
-use Rattle.rules.proofs.Tests.{and-left, and-right, and-both, at-place}
-use Rattle.rules.proofs.Expressions.{expression-back}
-use Rattle.rules.proofs.Inverse.{allowed-fits, record-length, in-count, pack-unpack}
-use Rattle.rules.proofs.Places.{numbers, pack-append, pack-length, replaced-bytes}
+use Rattle.rules.proofs.Facts.{allowed, numbers, all-allowed-facts}
+use Rattle.rules.proofs.Tests.{and-left, and-right, and-both}
+use Rattle.rules.proofs.Inverse.{record-length, pack-unpack}
+use Rattle.rules.proofs.Places.{pack-append, pack-length, replaced-bytes}
 use Rattle.primitives.specs.Bytes.{over}
 use Rattle.primitives.proofs.Over.{over-part}
-use Rattle.expression.proofs.Tests.{some-is}
-use Rattle.store.specs.Places.{object-at, Stored, with-record}
-use Rattle.store.proofs.Standing.{standing, slot-here, object-here, stands-here, stored}
+use Rattle.record.specs.Places.{object-at, Stored, with-record}
+use Rattle.record.proofs.Standing.{object-here, stands-here, stored-facts}
 
 none-behind : (q n : ℕ) (os : List Object) → found-behind q n os ≡ Nothing → find n os ≡ none
 unfolding found-behind find
@@ -53,7 +50,7 @@ record Lies (q n p : ℕ) (os : List Object) : Type 0 where
   object-ok : object-allowed object ≡ true
 
 lies-behind : (q n p : ℕ) (os : List Object) → all-allowed os ≡ true → found-behind q n os ≡ At p → Lies q n p os
-unfolding found-behind find size all-allowed
+unfolding found-behind find size-with all-allowed-with
 lies-behind q n p [] k e = let z : _≡_ {A = ℕ} 0 1 = cc in absurd (omega arith)
 lies-behind q n p (o ∷ os) k e = go (eqb n (o .number)) refl e (lies-behind (q + record-size o) n p os (and-right (object-allowed o) (all-allowed os) k))
   where
@@ -87,12 +84,12 @@ module _ (n p : ℕ) (b : List ℕ) (os : List Object) (u : unpack b ≡ some os
 
   lies : Lies 0 n p os
   unfolding found
-  lies = lies-behind 0 n p os (in-count os all-ok .1) e
+  lies = lies-behind 0 n p os (all-allowed-facts os all-ok .each) e
 
   laid : b ≡ pack (lies .before) ++ (record-bytes (lies .object) ++ pack (lies .after))
   laid =
       sym packed ∙ ap pack (lies .split) ∙ pack-append (lies .before) (lies .object ∷ lies .after) ∙
-      ap (λ x. pack (lies .before) ++ x) (unfold pack in refl)
+      ap (λ x. pack (lies .before) ++ x) (unfold pack-with in refl)
 
   place-is : length (pack (lies .before)) ≡ p
   place-is = pack-length (lies .before) (lies .before-ok) ∙ sym (zero-add (size (lies .before))) ∙ sym (lies .spot)
@@ -107,10 +104,10 @@ module _ (n p : ℕ) (b : List ℕ) (os : List Object) (u : unpack b ≡ some os
   finds-it = lies .finds ∙ ap (λ (x : Object). some x) (sym read-back)
 
   pub stored-there : Stored p b
-  stored-there = stored p b (stands-here p b (lies .object) (pack (lies .after)) (lies .object-ok) here)
+  stored-there = stored-facts p b (stands-here p b (lies .object) (pack (lies .after)) (lies .object-ok) here)
 
   rises : rising (numbers (lies .before ++ lies .object ∷ lies .after)) ≡ true
-  rises = unfold objects-allowed numbers in (rw (lies .split) at (at-place _ all-ok 3))
+  rises = rw (lies .split) at (all-allowed-facts os all-ok .rises)
 
   -- another object in its place
   pub recorded-there : (new : Object) → object-allowed new ≡ true → new .number ≡ object-at p b .number → new .maximum ≡ object-at p b .maximum →
@@ -122,12 +119,5 @@ module _ (n p : ℕ) (b : List ℕ) (os : List Object) (u : unpack b ≡ some os
       let k′ : new .number ≡ o .number = k ∙ ap (λ (x : Object). x .number) read-back in
       ap (over p (record-bytes new)) laid ∙
       over-part (pack (lies .before)) (record-bytes o) (record-bytes new) (pack (lies .after)) p place-is
-      (record-length o (allowed-fits o (lies .object-ok)) ∙ m′ ∙ sym (record-length new (allowed-fits new ok))) ∙
+      (record-length o (allowed o (lies .object-ok)) ∙ m′ ∙ sym (record-length new (allowed new ok))) ∙
       sym (ap (λ x. pack (replaced new x)) (lies .split) ∙ replaced-bytes (lies .before) o (lies .after) new k′ rises)
-
--- the bytes in each slot of a record that stands there are an expression
-pub slot-expression : (p : ℕ) (b : List ℕ) (w : Slot) → Stored p b → is-some (expression (expression-bytes (expression-in w (object-at p b)))) ≡ true
-slot-expression p b w s =
-    let t = standing p b (s .stands) in
-    let e = expression-in w (object-at p b) in
-    some-is (expression (expression-bytes e)) e (expression-back e (slot-here p b (object-at p b) _ (t .allowed) (t .here) w .allowed))

@@ -7,14 +7,15 @@ use native.Mathlib.Omega.{arith}
 use borrow.Author.Tests.{eq-eqb, ne-eqb}
 use lib.Dec.{eqb}
 use lib.ListN.{length, drop, length-append, length-drop, drop-of-length-le}
-use Rattle.rules.specs.Basic.{if_then_else_, low-at, is-some, or-else}
-use Rattle.rules.specs.Object.{Object, object-allowed, all-allowed}
-use Rattle.rules.specs.Layout.{head-size, record-size, record-bytes, pack, unpack, found-behind, found}
+use Rattle.rules.specs.Basic.{if_then_else_, is-some, or-else}
+use Rattle.rules.specs.Object.{Object, object-allowed, all-allowed, all-allowed-with}
+use Rattle.rules.specs.Layout.{head-size, record-size, record-bytes, pack, unpack, found-behind, found, pack-with}
+use Rattle.rules.proofs.Facts.{allowed, all-allowed-facts}
 use Rattle.rules.proofs.Tests.{and-left, and-right, some-else}
-use Rattle.rules.proofs.Inverse.{allowed-fits, record-length, in-count, pack-unpack}
+use Rattle.rules.proofs.Inverse.{record-length, pack-unpack}
 use Rattle.rules.specs.declared.Found.the-variants.{At, Nothing}
-use Rattle.store.specs.Places.{object-at, Stored}
-use Rattle.store.proofs.Standing.{rest-here, object-here, stands-here, stored}
+use Rattle.record.specs.Places.{object-at, Stored}
+use Rattle.record.proofs.Standing.{rest-here, object-here, stands-here, stored-facts}
 
 -- what is left of a search that has come to `at`
 pub record Ahead (n : ℕ) (b : List ℕ) (at : ℕ) : Type 0 where
@@ -27,10 +28,10 @@ pub record Ahead (n : ℕ) (b : List ℕ) (at : ℕ) : Type 0 where
 pub start : (n : ℕ) (b : List ℕ) → is-some (unpack b) ≡ true → Ahead n b 0
 start n b h =
     let (e, ok) = pack-unpack b (or-else (unpack b) []) (some-else (unpack b) [] h) in
-    record { objects = or-else (unpack b) []; bytes = sym e; allowed = in-count _ ok .1; same = unfold found in refl; inside = omega arith }
+    record { objects = or-else (unpack b) []; bytes = sym e; allowed = all-allowed-facts _ ok .each; same = unfold found in refl; inside = omega arith }
 
 parts : (o : Object) (os : List Object) → all-allowed (o ∷ os) ≡ true → (object-allowed o ≡ true) × (all-allowed os ≡ true)
-unfolding all-allowed
+unfolding all-allowed-with
 parts o os k = (and-left (object-allowed o) (all-allowed os) k, and-right (object-allowed o) (all-allowed os) k)
 
 module _ (n at : ℕ) (b : List ℕ) where
@@ -47,31 +48,18 @@ module _ (n at : ℕ) (b : List ℕ) where
   first a h = go (a .objects) refl
     where
       go : (os : List Object) → a .objects ≡ os → First a
-      go [] e = let z : drop at b ≡ [] = a .bytes ∙ ap pack e ∙ (unfold pack in refl) in absurd (omega (arith, simp length-drop at (ap length z)))
+      go [] e = let z : drop at b ≡ [] = a .bytes ∙ ap pack e ∙ (unfold pack-with in refl) in absurd (omega (arith, simp length-drop at (ap length z)))
       go (o ∷ os) e =
           let k : all-allowed (o ∷ os) ≡ true = ap all-allowed (sym e) ∙ a .allowed in
           let k′ = parts o os k in
-          record {
-            object = o;
-            others = os;
-            split = e;
-            ok = k′ .0;
-            rest-ok = k′ .1;
-            here = a .bytes ∙ ap pack e ∙ (unfold pack in refl);
-          }
+          record { object = o; others = os; split = e; ok = k′ .0; rest-ok = k′ .1; here = a .bytes ∙ ap pack e ∙ (unfold pack-with in refl) }
 
   module _ (a : Ahead n b at) (h : at < length b) where
     read-is : object-at at b ≡ first a h .object
     read-is = let f = first a h in object-here at b (f .object) (pack (f .others)) (f .ok) (f .here)
 
     pub here-stored : Stored at b
-    here-stored = let f = first a h in stored at b (stands-here at b (f .object) (pack (f .others)) (f .ok) (f .here))
-
-    pub four-in : at + 4 + 1 < length b
-    four-in = omega (arith, here-stored .inside)
-
-    pub six-in : at + 6 + 1 < length b
-    six-in = omega (arith, here-stored .inside)
+    here-stored = let f = first a h in stored-facts at b (stands-here at b (f .object) (pack (f .others)) (f .ok) (f .here))
 
     opened : found n (or-else (unpack b) []) ≡
         (if eqb n (object-at at b .number) then At at else found-behind (at + record-size (object-at at b)) n (first a h .others))
@@ -84,31 +72,25 @@ module _ (n at : ℕ) (b : List ℕ) where
             (if eqb n (first a h .object .number) then At at else found-behind (at + record-size (first a h .object)) n (first a h .others))
         one = unfold found-behind in refl
 
-    module _ (k : ℕ) (ek : k ≡ low-at (at + 4) b) where
-      number-is : k ≡ object-at at b .number
-      number-is = ek ∙ here-stored .number-is
-
+    -- what the calls gave: the number of the object there, and where its record ends
+    module _ (k : ℕ) (ek : k ≡ object-at at b .number) where
       pub found-here : k ≡ n → At at ≡ found n (or-else (unpack b) [])
-      found-here e = sym (opened ∙ rw (eq-eqb n (object-at at b .number) (sym e ∙ number-is)))
+      found-here e = sym (opened ∙ rw (eq-eqb n (object-at at b .number) (sym e ∙ ek)))
 
-      module _ (m : ℕ) (em : m ≡ low-at (at + 6) b) where
-        maximum-is : m ≡ object-at at b .maximum
-        maximum-is = em ∙ here-stored .maximum-is
-
-        pub go-on : (k ≡ n → ⊥) → Ahead n b (at + head-size + m)
-        go-on e =
-            let f = first a h in
-            let q : at + record-size (object-at at b) ≡ at + head-size + m = omega (arith, maximum-is) in
-            let r : record-size (f .object) ≡ record-size (object-at at b) = ap (λ (o : Object). record-size o) (sym read-is) in
-            record {
-              objects = f .others;
-              bytes = ap (λ k. drop k b) (sym q) ∙ ap (λ k. drop (at + k) b) (sym r) ∙ rest-here at b (f .object) (pack (f .others)) (f .ok) (f .here);
-              allowed = f .rest-ok;
-              same =
-                  opened ∙ rw (ne-eqb n (object-at at b .number) (λ z. e (number-is ∙ sym z)))
-                  (ap (λ k. found-behind k n (f .others)) q);
-              inside = omega (arith, here-stored .inside, maximum-is);
-            }
+      pub go-on : (m : ℕ) → m ≡ at + head-size + object-at at b .maximum → (k ≡ n → ⊥) → Ahead n b m
+      go-on m em e =
+          let f = first a h in
+          let q : at + record-size (object-at at b) ≡ m = omega (arith, em) in
+          let r : record-size (f .object) ≡ record-size (object-at at b) = ap (λ (o : Object). record-size o) (sym read-is) in
+          record {
+            objects = f .others;
+            bytes = ap (λ k. drop k b) (sym q) ∙ ap (λ k. drop (at + k) b) (sym r) ∙ rest-here at b (f .object) (pack (f .others)) (f .ok) (f .here);
+            allowed = f .rest-ok;
+            same =
+                opened ∙ rw (ne-eqb n (object-at at b .number) (λ z. e (ek ∙ sym z)))
+                (ap (λ k. found-behind k n (f .others)) q);
+            inside = omega (arith, here-stored .inside, em);
+          }
 
   pub search-end : Ahead n b at → length b ≤ at → Nothing ≡ found n (or-else (unpack b) [])
   search-end a h = sym (a .same ∙ go (a .objects) refl)
@@ -118,6 +100,6 @@ module _ (n at : ℕ) (b : List ℕ) where
       go (o ∷ os) e =
           let k : all-allowed (o ∷ os) ≡ true = ap all-allowed (sym e) ∙ a .allowed in
           let k′ = parts o os k in
-          let z : [] ≡ record-bytes o ++ pack os = sym (drop-of-length-le b {i = at} h) ∙ a .bytes ∙ ap pack e ∙ (unfold pack in refl) in
-          let l = record-length o (allowed-fits o (k′ .0)) in
+          let z : [] ≡ record-bytes o ++ pack os = sym (drop-of-length-le b {i = at} h) ∙ a .bytes ∙ ap pack e ∙ (unfold pack-with in refl) in
+          let l = record-length o (allowed o (k′ .0)) in
           absurd (omega (arith, l, simp length-append at (ap length z)))

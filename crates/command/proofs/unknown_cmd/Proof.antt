@@ -4,14 +4,5 @@ use borrow.Author.Needs.{needs}
 use Rattle.command.proofs.unknown_cmd.Statement.{statement}
 use Rattle.command.proofs.unknown_cmd.Tie as tie
 
-cmd-requires : tie.Need-cmd-requires
-cmd-requires c κs = search needs
-
-known-cmd-requires : tie.Need-known-cmd-requires
-known-cmd-requires c κs = search needs
-
-returns : tie.Need-returns
-returns c = search unknown-told
-
 pub unknown-cmd-spec : {M : Type 1} → statement M
-unknown-cmd-spec = tie.close (tie.spec cmd-requires known-cmd-requires returns)
+unknown-cmd-spec = tie.close (tie.spec (λ c κs. search needs) (λ c κs. search needs) (λ c. search unknown-told))

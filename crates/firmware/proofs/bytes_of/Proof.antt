@@ -4,11 +4,5 @@ use borrow.Author.Needs.{needs}
 use Rattle.firmware.proofs.bytes_of.Statement.{statement}
 use Rattle.firmware.proofs.bytes_of.Tie as tie
 
-opened-byte-requires : tie.Need-opened-byte-requires
-opened-byte-requires c κs = search needs
-
-returns : tie.Need-returns
-returns c = search made-of
-
 pub bytes-of-spec : {M : Type 1} → statement M
-bytes-of-spec = tie.close (tie.spec opened-byte-requires returns)
+bytes-of-spec = tie.close (tie.spec (λ c κs. search needs) (λ c. search made-of))

@@ -1,4 +1,4 @@
--- `firmware::element_execute` meets its contract: a walk of its MIR, by hand, by the laws of element's `InPlace.antt`. Of `execute_for_host` only its
+-- `firmware::element_execute` meets its contract: a walk of its MIR, by hand, by the laws of in_place's `InPlace.antt`. Of `execute_for_host` only its
 -- contract is used,
 -- and no line names a field of the session. What is this file's own: the parameters, what is ensured of them, the call, and where each local lies.
 -- A comment in brackets lists what the walk holds, in its order: `_3` is the memory of local 3, followed by what gives it back.
@@ -20,8 +20,8 @@ use Rattle.firmware.proofs.HostSession as T
 use Rattle.firmware.proofs.HostSession.Laws as T′
 use Rattle.firmware.proofs.HostAnswer as N
 use Rattle.firmware.proofs.HostAnswer.Laws as N′
-use Rattle.element.proofs.InPlace.{Kept, keeps, shared, changed, Lasts-all, AllTokens, With, low, Answering, begins, takes, again, gives, in-place, let-go, meets}
-use Rattle.element.proofs.InPlace.{Heap, Calls, Loops, WpFn, Atoms, Lfts, Shares, Fun, Given, ‵, _$_, _∵_, !, qed, init, no-more, params1, pass1, pass0, free0, FmC, fmOf, ptr-vals, slice-vals, Args, tripleOf, Contract, Triple, entered, cited}
+use Rattle.in_place.proofs.InPlace.{SessionInPlace, keeps, shared, changed, Lasts-all, AllTokens, With, low, Answering, begins, takes, again, gives, in-place, let-go, meets}
+use Rattle.in_place.proofs.InPlace.{Heap, Calls, Loops, WpFn, Atoms, Lfts, Shares, Fun, Given, ‵, _$_, _∵_, !, qed, init, no-more, params1, pass1, pass0, free0, FmC, fmOf, ptr-vals, slice-vals, Args, tripleOf, Contract, Triple, entered, cited}
 use Rattle.firmware.proofs.execute_for_host as core
 use Rattle.firmware.proofs.execute_for_host.Symbol as core-def
 use Rattle.firmware.proofs.execute_for_host.Symbol.{name as #core}
@@ -54,7 +54,7 @@ module _ {M : Type 1} (𝓤 : URA M) (H : Heap 𝓤) (A : Atoms 𝓤) (mem : Mem
     room = a .1 .1 .1 .0
 
     -- the session, with what is passed before it and after it
-    abbrev kept : Kept
+    abbrev kept : SessionInPlace
     kept =
         keeps T.the-type T′.the-laws T′.the-plain (κs .1 .1 .0) (qs .1 .1 .0) session
         (shared (κs .0) (qs .0) u8 command ∷ changed (κs .1 .0) (qs .1 .0) u8 store ∷ [])
@@ -62,11 +62,7 @@ module _ {M : Type 1} (𝓤 : URA M) (H : Heap 𝓤) (A : Atoms 𝓤) (mem : Mem
 
     -- what is ensured of the outcome and the last values
     abbrev Said : ℕ → Lasts-all kept → Type 0
-    Said n ls =
-        let store′ = ls .1 .0 in
-        let session′ = ls .1 .1 .0 in
-        let room′ = ls .1 .1 .1 .0 in
-        HostExecutes (command .now) (room .now) (store .now) (session .now) (left n room′ store′ session′)
+    Said n ls = HostExecutes (command .now) (room .now) (store .now) (session .now) (left n (ls .1 .1 .1 .0) (ls .1 .0) (ls .1 .1 .0))
 
     -- the answer of `execute_for_host`: its outcome and its session
     abbrev answering : Answering kept

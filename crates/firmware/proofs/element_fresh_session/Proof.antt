@@ -4,14 +4,5 @@ use borrow.Author.Needs.{needs}
 use Rattle.firmware.proofs.element_fresh_session.Statement.{statement}
 use Rattle.firmware.proofs.element_fresh_session.Tie as tie
 
-fresh-session-requires : tie.Need-fresh-session-requires
-fresh-session-requires c κs = search needs
-
-bytes-of-requires : tie.Need-bytes-of-requires
-bytes-of-requires c κs = search needs
-
-returns : tie.Need-returns
-returns c = search made-fresh
-
 pub element-fresh-session-spec : {M : Type 1} → statement M
-element-fresh-session-spec = tie.close (tie.spec fresh-session-requires bytes-of-requires returns)
+element-fresh-session-spec = tie.close (tie.spec (λ c κs. search needs) (λ c κs. search needs) (λ c. search made-fresh))

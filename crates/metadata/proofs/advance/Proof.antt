@@ -23,12 +23,12 @@ use types.Part.{whole, sub, look-in, store-in}
 use types.Run.{look, init, forget, stop, hop, fld, from, load, of-opd, and-then, no-more, assigns, land, returns, enter, alloc1, alloc0, params1, pass1, pass0, free1, free0}
 use types.SemTy.{Body}
 use sound.WpLaws.{FmC, fmOf, WpFn-mono}
-use denote.RattleType.{RattleType, owns}
+use denote.RattleType.{owns}
 use denote.Laws.{Is, shows}
 use denote.Memory.{mem, cellAt}
 use denote.Plain.{uint-lawful}
 use denote.Builtin.{usize}
-use denote.Ref.{RefT, NamedLft, MutRef, ptr-vals, mut-tells, now}
+use denote.Ref.{RefT, MutRef, ptr-vals, mut-tells, now}
 use denote.Signature.{Slot, plain, namedLft}
 use denote.Steps.{only, opens, closes, peeks, nothing}
 use denote.Enum.Laws as EL
@@ -47,7 +47,7 @@ use Rattle.metadata.proofs.MetadataReader as T
 use Rattle.metadata.proofs.MetadataReader.Laws as T′
 use Rattle.metadata.proofs.Next as N
 use Rattle.metadata.proofs.Next.Laws as N′
-use Rattle.metadata.proofs.Reading.{Lent, passed, Held, Token, asked, answers, made, opened}
+use Rattle.metadata.proofs.Reading.{Lent, passed, α, B, Held, Token, asked, answers, made, opened}
 use Rattle.metadata.proofs.field_at as field
 use Rattle.metadata.proofs.field_at.Symbol as field-def
 use Rattle.metadata.proofs.field_at.Symbol.{name as #field-at}
@@ -60,16 +60,6 @@ use Rattle.metadata.proofs.advance.Key.{name as #advance}
 use Rattle.metadata.proofs.advance as f
 use Rattle.metadata.proofs.advance.Statement as stated
 use Rattle.metadata.proofs.advance.Code as code
-
--- 'a, and the reader's type at it
-abbrev α : Lft → NamedLft
-α κ′ = record { mir = named 1; lft = κ′ }
-
-abbrev B : Lft → RattleType
-B κ′ = T.the-row (α κ′)
-
-abbrev L : (κ′ : Lft) → LL.Laws (T.the-type (α κ′))
-L κ′ = T′.the-laws (α κ′)
 
 -- `MetadataReader<'a>`, as the referent's place in the signature
 abbrev behind : Slot 2
@@ -128,10 +118,10 @@ module _ {M : Type 1} (𝓤 : URA M) (H : Heap 𝓤) (A : Atoms 𝓤) (at-mem : 
             pass0 ! $
             -- [_5; …; room for _0; …; the tokens at 12; what the reference owns at 13]: the borrow is opened
             move ! (13 ∷ []) $ fsplit ! $ fsplit3 ! $ drop ! $ move ! (15 ∷ []) $ split ! $ move ! (2 ∷ 3 ∷ 0 ∷ []) $
-            opens ! tt (B κ′) {h = h} b o (λ us. spelt ! (B κ′) (Is (B κ′)) (shows 𝓤 H A (B κ′)) (LL.vals (T.the-type (α κ′)) (L κ′)) (LL.tells (T.the-type (α κ′)) (L κ′)) fullShare h us b o $
+            opens ! tt (B κ′) {h = h} b o (λ us. spelt ! (B κ′) (Is (B κ′)) (shows 𝓤 H A (B κ′)) (LL.vals (T.the-type (α κ′)) (T′.the-laws (α κ′))) (LL.tells (T.the-type (α κ′)) (T′.the-laws (α κ′))) fullShare h us b o $
             use1 W (‵ (fat fullShare (T′.mir erased) b o (T′.lowered h))) (W .laws .raw-at fullShare (T′.mir erased) b o (T′.lowered h)) $
             move ! (1 ∷ []) $ peeks ! (B κ′) (Is (B κ′)) (shows 𝓤 H A (B κ′)) h (T′.lowered h ∷ []) (λ was.
-            let owed = LL.owed (T.the-type (α κ′)) (L κ′) h _ was in
+            let owed = LL.owed (T.the-type (α κ′)) (T′.the-laws (α κ′)) h _ was in
             use1 W (‵ (Lent κ′ (h .content))) (opened 𝓤 H A W (α κ′) h) $ move ! (1 ∷ 0 ∷ []) $
             -- [the reader's cell; what content owns; the open borrow; obs; auth; 'a's token; true; _5 at 7; …; _0 at 17; …]: the fields are read
             assigns ! (of-opd ! (load ! (from ! (hop ! (look ! 15 refl) (fld ! refl (stop !)))) (look-in ! 0 (sub ! 0 refl (whole !))))) (from ! (stop !)) (init ! 13 refl (tt, (tt, (record { fits = owed .0 .0 .1 .0 }, tt)))) $

@@ -26,13 +26,12 @@ use types.Tokens.{lft-new}
 use sound.WpLaws.{FmC, fmOf, WpFn-mono}
 use borrow.Table.OneValue.{part-in-at, part-out-at}
 use borrow.Within.Token.{Rest, within-token, within-end}
-use denote.RattleType.{RattleType}
 use denote.Laws.{Is, shows}
 use denote.Lend.{lends-ref, ref-back}
 use denote.Memory.{mem, partAt}
 use denote.Plain.{uint-vals, uint-tells}
 use denote.Builtin.{u8}
-use denote.Ref.{RefT, NamedLft, MutRef, now}
+use denote.Ref.{RefT, MutRef, now}
 use denote.Slice.{ShrSlice, slice-vals, shr-slice-tells, shr-slice-lawful}
 use denote.Steps.{only, owned, peeks, heard, nothing}
 use denote.Enum.Laws as EL
@@ -54,7 +53,7 @@ use Rattle.metadata.proofs.Next as N
 use Rattle.metadata.proofs.Next.Laws as N′
 use Rattle.metadata.proofs.Step as S
 use Rattle.metadata.proofs.Step.Laws as S′
-use Rattle.metadata.proofs.Reading.{lent, Lent, passed, Passed, Token, stays, goes, with-place, asked, answers}
+use Rattle.metadata.proofs.Reading.{lent, Lent, passed, Passed, lasting, α, B, Token, stays, goes, with-place, asked, answers}
 use Rattle.metadata.proofs.reader_at as reader
 use Rattle.metadata.proofs.reader_at.Symbol as reader-def
 use Rattle.metadata.proofs.reader_at.Symbol.{name as #reader-at}
@@ -67,20 +66,6 @@ use Rattle.metadata.proofs.step_from.Key.{name as #step-from}
 use Rattle.metadata.proofs.step_from as f
 use Rattle.metadata.proofs.step_from.Statement as stated
 use Rattle.metadata.proofs.step_from.Code as code
-
--- the reader's lifetime, as `reader_at` returns it, as `advance` is lent it, and as a local of a body has it
-abbrev returned : Lft → NamedLft
-returned κ = record { mir = named 0; lft = κ }
-
-abbrev α : Lft → NamedLft
-α κ = record { mir = named 1; lft = κ }
-
-abbrev local : Lft → NamedLft
-local κ = record { mir = erased; lft = κ }
-
--- the reader's type at `advance`
-abbrev B : Lft → RattleType
-B κ = T.the-row (α κ)
 
 module _ {M : Type 1} (𝓤 : URA M) (H : Heap 𝓤) (A : Atoms 𝓤) (at-mem : Memory → SProp 𝓤) (run : Routine → Fun 𝓤) where
   -- the contracts that the proof cites
@@ -164,12 +149,12 @@ module _ {M : Type 1} (𝓤 : URA M) (H : Heap 𝓤) (A : Atoms 𝓤) (at-mem : 
             move ! (17 ∷ []) $ fsplit ! $ move ! (1 ∷ []) $ drop ! $ move ! (0 ∷ 17 ∷ []) $
             use2 W (raw (ReaderAt .pre to-reader) ⊛ ‵ (Lent κ s)) (asked 𝓤 H A W κ q s n n-fits) $ split ! $
             calls-at ! fm ReaderAt known-reader to-reader (and-then ! (load ! (from ! (stop !)) (look ! 14 refl)) (and-then ! (load ! (from ! (stop !)) (look ! 12 refl)) (no-more !))) (λ u.
-            answers ! tt κ q s n (T.the-row (returned κ)) Made u (λ r e _.
-            rewrite ! 0 (λ (h : MetadataReader). ‵ (T.the-row (returned κ) .own h (u ∷ []))) (λ i. record { content = e .0 i; at = e .1 i }) refl $
+            answers ! tt κ q s n (T.the-row (lasting (named 0) κ)) Made u (λ r e _.
+            rewrite ! 0 (λ (h : MetadataReader). ‵ (T.the-row (lasting (named 0) κ) .own h (u ∷ []))) (λ i. record { content = e .0 i; at = e .1 i }) refl $
             peeks ! (B κ) (Is (B κ)) (shows 𝓤 H A (B κ)) h₀ (u ∷ []) (λ is₀.
             -- [what the reader owns; the token; what s owns; _7 at 3; _6; _5 at 7; _4; _3 at 11; _2; _1; _0 at 17; …]
-            land ! (from ! (stop !)) (init ! 7 refl (LL.lawful (T.the-type (local κ)) (T′.the-laws (local κ)) 𝓤 H A W .typed h₀ _ is₀ .0)) $
-            assigns ! (of-opd ! (load ! (from ! (stop !)) (look ! 7 refl))) (from ! (stop !)) (init ! 11 refl (LL.lawful (T.the-type (local κ)) (T′.the-laws (local κ)) 𝓤 H A W .typed h₀ _ is₀ .0)) $
+            land ! (from ! (stop !)) (init ! 7 refl (LL.lawful (T.the-type (lasting erased κ)) (T′.the-laws (lasting erased κ)) 𝓤 H A W .typed h₀ _ is₀ .0)) $
+            assigns ! (of-opd ! (load ! (from ! (stop !)) (look ! 7 refl))) (from ! (stop !)) (init ! 11 refl (LL.lawful (T.the-type (lasting erased κ)) (T′.the-laws (lasting erased κ)) 𝓤 H A W .typed h₀ _ is₀ .0)) $
             assigns ! (addr ! (from ! (stop !))) (from ! (stop !)) (init ! 5 refl (tt, tt)) $
             -- the local is lent for a lifetime within κ
             move ! (11 ∷ 0 ∷ []) $ use2 W (‵ (partAt (B κ) fullShare h₀ l₃ 0)) (part-in-at 𝓤 H A W (B κ) refl fullShare h₀ l₃ 0 (T′.mir erased) refl u) $

@@ -13,41 +13,9 @@ Inv-loop store₀ at content place₀ store place = Going at place content store
 abbrev μ-loop : tie.MeasureT-loop
 μ-loop store₀ at content place₀ store place = length content - place
 
-loop-holds : tie.Need-loop-holds Inv-loop μ-loop
-loop-holds c = search going-start
-
-step-from-requires : tie.Need-step-from-requires Inv-loop μ-loop
-step-from-requires c κs = search needs
-
-enum-known-next : tie.Need-enum-known-next Inv-loop μ-loop
-enum-known-next c = search needs
-
-same-length : tie.Need-same-length Inv-loop μ-loop
-same-length c = search going-length
-
-returns : tie.Need-returns Inv-loop μ-loop
-returns c = search going-end
-
-store-field-requires : tie.Need-store-field-requires Inv-loop μ-loop
-store-field-requires c κs = (search going-stored, search value-counted, search value-inside, search going-allowed)
-
-loop-less : tie.Need-loop-less Inv-loop μ-loop
-loop-less c = search less-left
-
-loop-again : tie.Need-loop-again Inv-loop μ-loop
-loop-again c = search going-next
-
 pub store-content-spec : {M : Type 1} → statement M
-store-content-spec =
-    tie.close
-    (tie.spec
-    Inv-loop
-    μ-loop
-    loop-holds
-    step-from-requires
-    enum-known-next
-    same-length
-    returns
-    store-field-requires
-    loop-less
-    loop-again)
+store-content-spec = tie.close (tie.spec
+    Inv-loop μ-loop (λ c. search going-start) (λ c κs. search needs) (λ c. search needs) (λ c. search going-length)
+    (λ c. search going-end)
+    (λ c κs. (search going-stored, search value-counted, search value-inside, search going-allowed))
+    (λ c. search less-left) (λ c. search going-next))

@@ -4,17 +4,5 @@ use borrow.Author.Needs.{needs}
 use Rattle.response.proofs.refuse.Statement.{statement}
 use Rattle.response.proofs.refuse.Tie as tie
 
-slice-aggregate-put : tie.Need-slice-aggregate-put
-slice-aggregate-put c = search needs
-
-put-requires : tie.Need-put-requires
-put-requires c κs = search needs
-
-same-length : tie.Need-same-length
-same-length c = search needs
-
-returns : tie.Need-returns
-returns c = search refused-by
-
 pub refuse-spec : {M : Type 1} → statement M
-refuse-spec = tie.close (tie.spec slice-aggregate-put put-requires same-length returns)
+refuse-spec = tie.close (tie.spec (λ c. search needs) (λ c κs. search needs) (λ c. search needs) (λ c. search refused-by))

@@ -1,0 +1,170 @@
+-- Expressions judged byte by byte, as the loop of `holds` does, what that says of the rules' expressions, and those in slots.
+use Prim.Native.Nat.{ℕ, _+_, _-_, _*_, _%_, _≤_, _<_}
+use mathlib.Core.Path.{_≡_, refl, sym, ap, _∙_}
+use mathlib.Core.Bool.{Bool, true, false, _&&_, _||_}
+use mathlib.Core.List.{List, [], _∷_, _++_}
+use native.Mathlib.Omega.{arith}
+use lib.Dec.{eqb, ltb}
+use lib.ListN.{length, getD, drop}
+use Rattle.rules.proofs.Tests.{and-assoc}
+use Rattle.rules.specs.declared.Session.{Session}
+use Rattle.rules.specs.declared.Action.{Action}
+use Rattle.rules.specs.declared.Action.the-variants.{GetData, GetMetadata, Write, EraseAndWrite, SetMetadata}
+use Rattle.rules.specs.declared.Slot.{Slot}
+use Rattle.rules.specs.declared.Slot.the-variants.{Change, Read}
+use Rattle.rules.specs.Basic.{if_then_else_, is-some}
+use Rattle.rules.specs.Expression.{Group, just, _and_, Groups, only, _or_, Expression, always, never, when}
+use Rattle.rules.specs.Expression.{condition-bytes, group-bytes, groups-bytes, expression-bytes, conditions}
+use Rattle.rules.specs.Expression.{read-expression, expression}
+use Rattle.rules.specs.Access.{Seen, seen, seen-in, present, condition-holds, group-holds, groups-hold, holds, asked, granted}
+use Rattle.rules.specs.Object.{Object, of-session, expression-in}
+use Rattle.rules.proofs.Facts.{storable, allowed}
+use Rattle.rules.proofs.Named.{holds-alike}
+use Rattle.record.proofs.Standing.{standing}
+use Rattle.rules.proofs.Expressions.{groups-length, groups-two, expression-read, read-bytes}
+use Rattle.record.specs.Places.{object-at, Stored}
+use Rattle.record.proofs.Parts.{slot-expression}
+use Rattle.expression.specs.Conditions.{condition-at}
+use Rattle.expression.proofs.Tests.{some-of}
+use Rattle.expression.proofs.Conditions.{four, three}
+
+-- `condition_holds`; x is the state that the call gave
+pub condition-by : (v : Seen) (l i x : ℕ) (s : List ℕ) (r : Bool) → x ≡ present v l (getD s i 0) →
+    r ≡ (if eqb (getD s (i + 1) 0) 0xFA then eqb x (getD s (i + 2) 0) else
+    if eqb (getD s (i + 1) 0) 0xFB then ltb (getD s (i + 2) 0) x else ltb x (getD s (i + 2) 0)) →
+    r ≡ condition-holds v l (condition-at i s)
+unfolding condition-holds condition-at
+condition-by v l i x s r e f = rw e at f
+
+-- a group of the rest holds; `before`: the conditions before it, in its first group, hold
+unfoldable pub rest-holds : Seen → ℕ → Bool → List ℕ → Bool
+rest-holds s l before (a ∷ b ∷ c ∷ j ∷ rest) =
+    let held = before && condition-holds s l (record { subject = a; relation = b; reference = c }) in
+    eqb j 0xFE && held || rest-holds s l (eqb j 0xFE || held) rest
+rest-holds s l before (a ∷ b ∷ c ∷ []) = before && condition-holds s l (record { subject = a; relation = b; reference = c })
+rest-holds s l before (a ∷ b ∷ []) = false
+rest-holds s l before (a ∷ []) = false
+rest-holds s l before [] = false
+
+-- the loop; k, held and fin are what the calls gave
+module _ (v : Seen) (l : ℕ) (w : Bool) (s : List ℕ) (t : Bool) (i : ℕ) (inv : w ≡ rest-holds v l t (drop i s)) where
+  module _ (k held : Bool) (e : k ≡ condition-holds v l (condition-at i s)) (f : held ≡ (t && k)) where
+    rest-open : i + 3 < length s → w ≡ (eqb (getD s (i + 3) 0) 0xFE && held || rest-holds v l (eqb (getD s (i + 3) 0) 0xFE || held) (drop (i + 4) s))
+    unfolding rest-holds condition-at
+    rest-open h = rw (f, e) (inv ∙ ap (rest-holds v l t) (four s i h))
+
+    pub rest-last : i + 3 ≤ length s → length s ≤ i + 3 → held ≡ w
+    unfolding rest-holds condition-at
+    rest-last h k = rw (f, e) (sym (inv ∙ ap (rest-holds v l t) (three s i (omega arith))))
+
+    module _ (fin : Bool) (p : fin ≡ (eqb (getD s (i + 3) 0) 0xFE && held)) where
+      pub rest-true : i + 3 < length s → fin ≡ true → true ≡ w
+      rest-true h q = rw (rest-open h, ← p, q)
+
+      pub rest-on : (t′ : Bool) → i + 3 < length s → fin ≡ false → t′ ≡ (eqb (getD s (i + 3) 0) 0xFE || held) → w ≡ rest-holds v l t′ (drop (i + 4) s)
+      rest-on t′ h q r = rw (rest-open h, ← p, q, r)
+
+module _ (v : Seen) (l : ℕ) where
+  rest-group : (x : Group) (t : Bool) → rest-holds v l t (group-bytes x) ≡ (t && group-holds v l x)
+  unfolding rest-holds group-bytes condition-bytes group-holds
+  rest-group (just c) t = refl
+  rest-group (c and x) t = rest-group x (t && condition-holds v l c) ∙ and-assoc t (condition-holds v l c) (group-holds v l x)
+
+  rest-or : (x : Group) (t : Bool) (b : List ℕ) → rest-holds v l t (group-bytes x ++ 0xFE ∷ b) ≡ (t && group-holds v l x || rest-holds v l true b)
+  unfolding rest-holds group-bytes condition-bytes group-holds
+  rest-or (just c) t b = refl
+  rest-or (c and x) t b =
+      rest-or x (t && condition-holds v l c) b ∙
+      ap (λ y. y || rest-holds v l true b) (and-assoc t (condition-holds v l c) (group-holds v l x))
+
+  rest-groups : (gs : Groups) → rest-holds v l true (groups-bytes gs) ≡ groups-hold v l gs
+  unfolding groups-bytes groups-hold
+  rest-groups (only x) = rest-group x true
+  rest-groups (x or gs) = rest-or x true (groups-bytes gs) ∙ ap (λ y. group-holds v l x || y) (rest-groups gs)
+
+  holds-when : (e : Expression) → (length (expression-bytes e) ≡ 1 → ⊥) → holds v l e ≡ rest-holds v l true (expression-bytes e)
+  unfolding expression-bytes holds
+  holds-when always n = absurd (n refl)
+  holds-when never n = absurd (n refl)
+  holds-when (when gs) n = sym (rest-groups gs)
+
+  -- the bytes of an expression hold as it does
+  pub holds-joined : (s : List ℕ) → is-some (expression s) ≡ true → (length s ≡ 1 → ⊥) → holds v l (read-expression s) ≡ rest-holds v l true s
+  holds-joined s h n =
+      let (e, q) = some-of (expression s) h in
+      let (b, a) = expression-read s e q in
+      rw (← b) (rw (read-bytes e) (holds-when e (λ x. n (ap length (sym b) ∙ x))))
+
+  holds-byte : (x : ℕ) (e : Expression) → expression-bytes e ≡ x ∷ [] → eqb x 0x00 ≡ holds v l e
+  unfolding expression-bytes holds
+  holds-byte x always b = let q : 0x00 ≡ x = cc in rw (← q)
+  holds-byte x never b = let q : 0xFF ≡ x = cc in rw (← q)
+  holds-byte x (when gs) b = absurd (omega (arith, groups-length gs, ap length b))
+
+  pub holds-one : (s : List ℕ) → is-some (expression s) ≡ true → length s ≡ 1 → eqb (getD s 0 0) 0x00 ≡ holds v l (read-expression s)
+  holds-one [] h n = absurd (omega arith)
+  holds-one (x ∷ []) h n =
+      let (e, q) = some-of (expression (x ∷ [])) h in
+      let b = expression-read (x ∷ []) e q .0 in
+      holds-byte x e b ∙ ap (holds v l) (sym (read-bytes e) ∙ ap read-expression b)
+  holds-one (x ∷ y ∷ s) h n = absurd (omega arith)
+
+-- the conditions fill the bytes: three for the last, four for each before it
+count-of : (s : List ℕ) → is-some (expression s) ≡ true → (length s ≡ 1 → ⊥) → (n : ℕ) × (length s + 1 ≡ 4 * n) × (1 ≤ n)
+unfolding expression-bytes
+count-of s h n = let (e, q) = some-of (expression s) h in go e (expression-read s e q .0)
+  where
+    go : (e : Expression) → expression-bytes e ≡ s → (n : ℕ) × (length s + 1 ≡ 4 * n) × (1 ≤ n)
+    go always b = absurd (n (ap length (sym b)))
+    go never b = absurd (n (ap length (sym b)))
+    go (when gs) b = (conditions gs, ap (λ x. length x + 1) (sym b) ∙ groups-length gs, groups-two gs)
+
+pub one-condition : (s : List ℕ) → is-some (expression s) ≡ true → (length s ≡ 1 → ⊥) → 0 + 3 ≤ length s
+one-condition s h n = let (k, e, m) = count-of s h n in omega arith
+
+pub whole-conditions : (s : List ℕ) → is-some (expression s) ≡ true → (length s ≡ 1 → ⊥) → (length s + 1 - 0) % 4 ≡ 0
+whole-conditions s h n = let (k, e, m) = count-of s h n in omega arith
+
+-- `slot_holds`; no condition looks at stored objects
+module _ (p : ℕ) (b : List ℕ) (t : Stored p b) (w : Slot) (part : List ℕ) (e : part ≡ expression-bytes (expression-in w (object-at p b))) where
+  pub part-well-formed : is-some (expression part) ≡ true
+  part-well-formed = ap (λ x. is-some (expression x)) e ∙ slot-expression p b w t
+
+  pub part-holds : (s : Session) (lcso : ℕ) (r : Bool) → r ≡ holds (seen [] s) lcso (read-expression part) →
+      r ≡ holds (seen-in b s) lcso (expression-in w (object-at p b))
+  unfolding seen
+  part-holds s lcso r er =
+      er ∙ ap (holds (seen [] s) lcso) (ap read-expression e ∙ read-bytes (expression-in w (object-at p b))) ∙
+      holds-alike (seen [] s) (seen-in b s) refl refl lcso (expression-in w (object-at p b))
+
+-- `granted`: the expression that each action asks of a stored object
+module _ (p : ℕ) (b : List ℕ) (t : Stored p b) (a : Action) (s : Session) where
+  abbrev o : Object
+  o = object-at p b
+
+  stored-kind : of-session (object-at p b .kind) ≡ false
+  stored-kind =
+      let f = allowed o (standing p b (t .stands) .allowed) in
+      storable (o .kind) (o .maximum) (o .content) (f .content) .not-of-session
+
+  pub free : a ≡ GetMetadata → true ≡ granted a (object-at p b) (seen-in b s)
+  unfolding granted asked holds
+  free e = rw (e, stored-kind)
+
+  module _ (lcso : ℕ) (el : lcso ≡ object-at p b .lcso) (r : Bool) where
+    pub by-read : r ≡ holds (seen-in b s) lcso (expression-in Read (object-at p b)) → a ≡ GetData → r ≡ granted a (object-at p b) (seen-in b s)
+    unfolding granted asked expression-in
+    by-read h e = h ∙ rw (e, el)
+
+    module _ (h : r ≡ holds (seen-in b s) lcso (expression-in Change (object-at p b))) where
+      pub by-change : a ≡ Write → r ≡ granted a (object-at p b) (seen-in b s)
+      unfolding granted asked expression-in
+      by-change e = h ∙ rw (e, el)
+
+      pub by-change-erasing : a ≡ EraseAndWrite → r ≡ granted a (object-at p b) (seen-in b s)
+      unfolding granted asked expression-in
+      by-change-erasing e = h ∙ rw (e, el)
+
+      pub by-change-metadata : a ≡ SetMetadata → r ≡ granted a (object-at p b) (seen-in b s)
+      unfolding granted asked expression-in
+      by-change-metadata e = h ∙ rw (e, stored-kind, el)

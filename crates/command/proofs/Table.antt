@@ -1,0 +1,73 @@
+-- What the command table says of a command's row is what it says of its line.
+use Prim.Native.Nat.{ℕ, _≤_}
+use mathlib.Core.Bool.{Bool, true, false, _&&_, _||_}
+use mathlib.Core.List.{List, [], _∷_}
+use mathlib.Core.Path.{_≡_, refl, sym, ap, _∙_}
+use native.Mathlib.Omega.{arith}
+use lib.Dec.{eqb}
+use Rattle.rules.specs.declared.Action.{Action}
+use Rattle.rules.specs.declared.Action.the-variants.{GetData, GetMetadata, Write, EraseAndWrite, SetMetadata}
+use Rattle.rules.specs.declared.Row.{Row}
+use Rattle.rules.specs.declared.Row.the-variants.{OnObject, OpenApplication, CloseApplication, Unknown}
+use Rattle.rules.specs.declared.Sizes.{Sizes}
+use Rattle.rules.specs.Basic.{if_then_else_, among, same}
+use Rattle.rules.specs.Command.{Line, anything, identifier, table-line, command-table, known-cmd, no-line, line-in, line-of, cmd, param, row}
+use Rattle.rules.proofs.Rows.{every-line}
+use Rattle.command.specs.Table.{row-in, action-sizes, row-sizes}
+
+pub rows-alike : (ls : List Line) (c p : ℕ) → row-in ls c p ≡ line-in ls c p .row
+unfolding row-in line-in no-line table-line
+rows-alike [] c p = refl
+rows-alike (l ∷ ls) c p = by (eqb c (l .cmd) && eqb p (l .param)) (rows-alike ls c p)
+  where
+    by : (t : Bool) → row-in ls c p ≡ line-in ls c p .row → (if t then l .row else row-in ls c p) ≡ (if t then l else line-in ls c p) .row
+    by true later = refl
+    by false later = later
+
+-- the sizes of a row are those of its line
+pub sizes-alike : (c : List ℕ) → row-sizes (row c) ≡ line-of c .sizes
+unfolding row line-of command-table table-line no-line
+sizes-alike c =
+    every-line (λ l. row-sizes (l .row) ≡ l .sizes) command-table (cmd c) (param c) (refl, (refl, (refl, (refl, (refl, (refl, (refl, tt))))))) refl
+
+pub sizes-by : (w v : Action) (z : Sizes) → w ≡ v → z ≡ action-sizes v → z ≡ action-sizes w
+sizes-by w v z e f = f ∙ ap action-sizes (sym e)
+
+pub row-sizes-by : (w v : Row) (z : Sizes) → w ≡ v → z ≡ row-sizes v → z ≡ row-sizes w
+row-sizes-by w v z e f = f ∙ ap row-sizes (sym e)
+
+-- InData of an action takes in the object
+pub takes-object : (a : Action) → 2 ≤ action-sizes a .least
+takes-object GetData = omega arith
+takes-object GetMetadata = omega arith
+takes-object Write = omega arith
+takes-object EraseAndWrite = omega arith
+takes-object SetMetadata = omega arith
+
+-- only an open must send the identifier
+abbrev pub takes : Row → List ℕ → Bool
+takes (OnObject a) b = true
+takes OpenApplication b = same identifier b
+takes CloseApplication b = true
+takes Unknown b = true
+
+pub takes-alike : (c b : List ℕ) → takes (row c) b ≡ line-of c .takes b
+unfolding row line-of command-table table-line no-line anything
+takes-alike c b =
+    every-line (λ l. takes (l .row) b ≡ l .takes b) command-table (cmd c) (param c) (refl, (refl, (refl, (refl, (refl, (refl, (refl, tt))))))) refl
+
+pub takes-by : (c b : List ℕ) (v : Row) → row c ≡ v → line-of c .takes b ≡ takes v b
+takes-by c b v e = sym (takes-alike c b) ∙ ap (λ r. takes r b) e
+
+-- the four Cmds
+pub known-alike : (n : ℕ) → among (0x01 ∷ 0x02 ∷ 0x70 ∷ 0x71 ∷ []) n ≡ known-cmd command-table n
+unfolding known-cmd command-table table-line among
+known-alike n = by (eqb n 0x01) (eqb n 0x02)
+  where
+    by : (a b : Bool) → a || (b || (eqb n 0x70 || (eqb n 0x71 || false))) ≡ a || (a || (b || (b || (b || (eqb n 0x70 || (eqb n 0x71 || false))))))
+    by true b = refl
+    by false true = refl
+    by false false = refl
+
+pub known-by : (r : Bool) (n : ℕ) → r ≡ among (0x01 ∷ 0x02 ∷ 0x70 ∷ 0x71 ∷ []) n → r ≡ known-cmd command-table n
+known-by r n e = e ∙ known-alike n

@@ -1,0 +1,53 @@
+-- What an action's own steps and step 13 say, by what the code knows of the object.
+use Prim.Native.Nat.{ℕ, _+_}
+use mathlib.Core.Bool.{not}
+use mathlib.Core.List.{List}
+use lib.Dec.{leb}
+use lib.ListN.{length, getD}
+use Rattle.rules.specs.declared.Kind.{Kind}
+use Rattle.rules.specs.declared.Kind.the-variants.{LifeCycle}
+use Rattle.rules.specs.declared.Action.{Action}
+use Rattle.rules.specs.declared.Action.the-variants.{GetData, GetMetadata, Write, EraseAndWrite, SetMetadata}
+use Rattle.rules.specs.declared.Refusal.the-variants.{AccessDenied, BoundaryExceeded, InvalidData}
+use Rattle.rules.specs.declared.Verdict.{Verdict}
+use Rattle.rules.specs.declared.Verdict.the-variants.{Refused}
+use Rattle.rules.specs.Command.{offset, asked-length, sent-data}
+use Rattle.rules.specs.Expression.{may-become}
+use Rattle.rules.specs.Object.{is}
+use Rattle.rules.specs.Metadata.{metadata-allowed}
+use Rattle.rules.specs.Chain.{_refused_or_}
+use Rattle.rules.specs.Refusals.{fitting}
+
+-- a get of data, where `limit` bytes are used
+abbrev pub get-verdict : List ℕ → ℕ → ℕ → Verdict
+get-verdict c limit room =
+    not (leb (offset c + asked-length c) limit) refused BoundaryExceeded or
+    fitting (asked-length c) room
+
+-- a write of data, where the maximum is `limit`
+abbrev pub write-verdict : List ℕ → ℕ → ℕ → Verdict
+write-verdict c limit room =
+    not (leb (offset c + length (sent-data c)) limit) refused BoundaryExceeded or
+    fitting 0 room
+
+-- a write to an object of the session, access included
+abbrev pub state-verdict : List ℕ → Kind → ℕ → ℕ → Verdict
+state-verdict c k byte room =
+    not (is LifeCycle k) refused AccessDenied or
+    not (leb (offset c + length (sent-data c)) 1) refused BoundaryExceeded or
+    not (may-become byte (getD (sent-data c) 0 0)) refused InvalidData or
+    fitting 0 room
+
+-- a set of metadata
+abbrev pub metadata-verdict : ℕ → List ℕ → ℕ → Verdict
+metadata-verdict lcso m room =
+    not (metadata-allowed lcso m) refused InvalidData or
+    fitting 0 room
+
+-- each action at an object of the session, access included
+abbrev pub session-verdict : Action → List ℕ → Kind → ℕ → ℕ → Verdict
+session-verdict GetData c k byte room = get-verdict c 1 room
+session-verdict GetMetadata c k byte room = Refused AccessDenied
+session-verdict Write c k byte room = state-verdict c k byte room
+session-verdict EraseAndWrite c k byte room = state-verdict c k byte room
+session-verdict SetMetadata c k byte room = Refused AccessDenied

@@ -1,0 +1,4 @@
+pub mod Standing
+pub mod Slots
+pub mod Records
+pub mod Parts
