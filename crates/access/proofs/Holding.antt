@@ -9,9 +9,9 @@ use lib.ListN.{length, getD, drop}
 use Rattle.rules.proofs.Tests.{and-assoc}
 use Rattle.rules.specs.declared.Session.{Session}
 use Rattle.rules.specs.declared.Action.{Action}
-use Rattle.rules.specs.declared.Action.the-variants.{GetData, GetMetadata, Write, EraseAndWrite, SetMetadata}
+use Rattle.rules.specs.declared.Action.the-variants.{GetMetadata, SetMetadata}
 use Rattle.rules.specs.declared.Slot.{Slot}
-use Rattle.rules.specs.declared.Slot.the-variants.{Change, Read}
+use Rattle.rules.specs.declared.Slot.the-variants.{Change}
 use Rattle.rules.specs.Basic.{if_then_else_, is-some}
 use Rattle.rules.specs.Expression.{Group, just, _and_, Groups, only, _or_, Expression, always, never, when}
 use Rattle.rules.specs.Expression.{condition-bytes, group-bytes, groups-bytes, expression-bytes, conditions}
@@ -138,7 +138,7 @@ module _ (p : ℕ) (b : List ℕ) (t : Stored p b) (w : Slot) (part : List ℕ) 
       holds-alike (seen [] s) (seen-in b s) refl refl lcso (expression-in w (object-at p b))
 
 -- `granted`: the expression that each action asks of a stored object
-module _ (p : ℕ) (b : List ℕ) (t : Stored p b) (a : Action) (s : Session) where
+module _ (p : ℕ) (b : List ℕ) (t : Stored p b) where
   abbrev o : Object
   o = object-at p b
 
@@ -147,24 +147,17 @@ module _ (p : ℕ) (b : List ℕ) (t : Stored p b) (a : Action) (s : Session) wh
       let f = allowed o (standing p b (t .stands) .allowed) in
       storable (o .kind) (o .maximum) (o .content) (f .content) .not-of-session
 
-  pub free : a ≡ GetMetadata → true ≡ granted a (object-at p b) (seen-in b s)
-  unfolding granted asked holds
-  free e = rw (e, stored-kind)
+  pub set-asks : asked SetMetadata (object-at p b) ≡ expression-in Change (object-at p b)
+  unfolding asked expression-in
+  set-asks = rw stored-kind
 
-  module _ (lcso : ℕ) (el : lcso ≡ object-at p b .lcso) (r : Bool) where
-    pub by-read : r ≡ holds (seen-in b s) lcso (expression-in Read (object-at p b)) → a ≡ GetData → r ≡ granted a (object-at p b) (seen-in b s)
-    unfolding granted asked expression-in
-    by-read h e = h ∙ rw (e, el)
+  module _ (a : Action) (s : Session) where
+    pub free : a ≡ GetMetadata → true ≡ granted a (object-at p b) (seen-in b s)
+    unfolding granted asked holds
+    free e = rw (e, stored-kind)
 
-    module _ (h : r ≡ holds (seen-in b s) lcso (expression-in Change (object-at p b))) where
-      pub by-change : a ≡ Write → r ≡ granted a (object-at p b) (seen-in b s)
-      unfolding granted asked expression-in
-      by-change e = h ∙ rw (e, el)
-
-      pub by-change-erasing : a ≡ EraseAndWrite → r ≡ granted a (object-at p b) (seen-in b s)
-      unfolding granted asked expression-in
-      by-change-erasing e = h ∙ rw (e, el)
-
-      pub by-change-metadata : a ≡ SetMetadata → r ≡ granted a (object-at p b) (seen-in b s)
-      unfolding granted asked expression-in
-      by-change-metadata e = h ∙ rw (e, stored-kind, el)
+    -- where it asks what a slot holds
+    pub by-slot : (v : Action) (w : Slot) (lcso : ℕ) (r : Bool) → a ≡ v → asked v (object-at p b) ≡ expression-in w (object-at p b) →
+        lcso ≡ object-at p b .lcso → r ≡ holds (seen-in b s) lcso (expression-in w (object-at p b)) → r ≡ granted a (object-at p b) (seen-in b s)
+    unfolding granted
+    by-slot v w lcso r e q el h = h ∙ (λ i. holds (seen-in b s) (el i) ((sym q ∙ ap (λ x. asked x (object-at p b)) (sym e)) i))

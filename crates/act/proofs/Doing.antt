@@ -1,6 +1,6 @@
 -- What each action does: at an object of the session and at a found record.
 use Prim.Native.Nat.{ℕ, _+_, _<_, _≤_}
-use mathlib.Core.Path.{_≡_, refl, sym, ap, _∙_}
+use mathlib.Core.Path.{_≡_, sym, ap, _∙_}
 use mathlib.Core.Bool.{true, false, _&&_, and-true, and-false}
 use mathlib.Core.List.{List, [], _∷_}
 use native.Mathlib.Omega.{arith}
@@ -16,9 +16,8 @@ use Rattle.rules.specs.Command.{offset, asked-length, sent-data, sent-metadata}
 use Rattle.rules.specs.Response.{done-response, put-in-front}
 use Rattle.rules.specs.Object.{used, of-session, with-content}
 use Rattle.rules.specs.Metadata.{metadata, metadata-allowed, sent-fields, with-fields}
-use Rattle.rules.specs.Session.{session-object, with-error, with-state}
-use Rattle.rules.specs.Access.{seen}
-use Rattle.rules.specs.Operation.{put-at, getting, getting-metadata, writing, setting-metadata, operation}
+use Rattle.rules.specs.Session.{with-error, with-state}
+use Rattle.rules.specs.Operation.{put-at, operation}
 use Rattle.rules.proofs.Facts.{storable, allowed}
 use Rattle.record.specs.Places.{object-at, Stored, with-record}
 use Rattle.record.proofs.Standing.{standing}
@@ -97,38 +96,19 @@ module _ (a : Action) (c : List ℕ) where
     pub no-set : a ≡ SetMetadata → ⊥
     no-set e = rw e at m
 
-  module _ (n byte : ℕ) (s : Session) where
-    pub byte-session : a ≡ GetData → (r : Session) → r ≡ (if eqb n 0xF1C2 && leb 1 (asked-length c) then with-error 0 s else s) → r ≡ session-does a c n byte s .session
-    unfolding operation getting session-object seen
-    byte-session e r f = rw e f
+  -- a match's arm
+  module _ (n byte : ℕ) (s : Session) (v : Action) (e : a ≡ v) where
+    pub session-by : (r : Session) → r ≡ session-does v c n byte s .session → r ≡ session-does a c n byte s .session
+    session-by r f = f ∙ ap (λ x. session-does x c n byte s .session) (sym e)
 
-    pub byte-answer : a ≡ GetData → (r xs : List ℕ) → r ≡ put-in-front (done-response (take (asked-length c) (drop (offset c) (byte ∷ [])))) xs →
+    pub told-by : (r xs : List ℕ) → r ≡ put-in-front (done-response (session-does v c n byte s .answer)) xs →
         r ≡ put-in-front (done-response (session-does a c n byte s .answer)) xs
-    unfolding operation getting session-object
-    byte-answer e r xs f = rw e f
+    told-by r xs f = f ∙ ap (λ x. put-in-front (done-response (session-does x c n byte s .answer)) xs) (sym e)
 
-    first-byte : getD c 8 0 ≡ getD (sent-data c) 0 0
-    unfolding sent-data
-    first-byte = sym (getD-drop 8 c 0 0)
-
-    -- a state written, of either action
-    module _ (r : Session) (f : r ≡ with-state n (getD c 8 0) s) where
-      pub write-session : a ≡ Write → r ≡ session-does a c n byte s .session
-      unfolding operation writing session-object seen
-      write-session e = rw e (f ∙ ap (λ x. with-state n x s) first-byte)
-
-      pub erase-session : a ≡ EraseAndWrite → r ≡ session-does a c n byte s .session
-      unfolding operation writing session-object seen
-      erase-session e = rw e (f ∙ ap (λ x. with-state n x s) first-byte)
-
-    module _ (r xs : List ℕ) (f : r ≡ put-in-front (done-response []) xs) where
-      pub write-told : a ≡ Write → r ≡ put-in-front (done-response (session-does a c n byte s .answer)) xs
-      unfolding operation writing
-      write-told e = rw e f
-
-      pub erase-told : a ≡ EraseAndWrite → r ≡ put-in-front (done-response (session-does a c n byte s .answer)) xs
-      unfolding operation writing
-      erase-told e = rw e f
+-- a state written
+pub state-set : (c : List ℕ) (n : ℕ) (s r : Session) → r ≡ with-state n (getD c 8 0) s → r ≡ with-state n (getD (sent-data c) 0 0) s
+unfolding sent-data
+state-set c n s r f = f ∙ ap (λ x. with-state n x s) (sym (getD-drop 8 c 0 0))
 
 -- at a found record --------------------------------------------------------------------------------------------------------------
 
@@ -162,15 +142,16 @@ module _ (p : ℕ) (b : List ℕ) (a : Action) (c : List ℕ) where
     pub set-allowed : (d : List ℕ) → d ≡ sent-metadata c → a ≡ SetMetadata → metadata-allowed (object-at p b .lcso) d ≡ true
     set-allowed d ed e = ap (metadata-allowed (object-at p b .lcso)) ed ∙ (rw e at m) .0
 
+  -- a match's arm
+  module _ (v : Action) (e : a ≡ v) (r : List ℕ) where
+    pub stored-by : r ≡ stored-at p (record-does v c (object-at p b) .stores) b → r ≡ stored-at p (record-does a c (object-at p b) .stores) b
+    stored-by f = f ∙ ap (λ x. stored-at p (record-does x c (object-at p b) .stores) b) (sym e)
+
+    pub answered-by : (xs : List ℕ) → r ≡ put-in-front (done-response (record-does v c (object-at p b) .answer)) xs →
+        r ≡ put-in-front (done-response (record-does a c (object-at p b) .answer)) xs
+    answered-by xs f = f ∙ ap (λ x. put-in-front (done-response (record-does x c (object-at p b) .answer)) xs) (sym e)
+
   -- what is stored
-  pub data-store : a ≡ GetData → b ≡ stored-at p (record-does a c (object-at p b) .stores) b
-  unfolding operation getting stored-at
-  data-store e = rw e
-
-  pub metadata-store : a ≡ GetMetadata → b ≡ stored-at p (record-does a c (object-at p b) .stores) b
-  unfolding operation getting-metadata stored-at
-  metadata-store e = rw e
-
   module _ (t : Stored p b) (k : ℕ) (src : List ℕ) (ek : k ≡ offset c) (ed : src ≡ sent-data c) (r : List ℕ) where
     -- a record's kind is not the session's
     stored-kind : of-session (object-at p b .kind) ≡ false
@@ -184,40 +165,15 @@ module _ (p : ℕ) (b : List ℕ) (a : Action) (c : List ℕ) where
 
     pub write-store : r ≡ with-record p (with-content (put-at k src (object-at p b .content)) (object-at p b)) b → a ≡ Write →
         r ≡ stored-at p (record-does a c (object-at p b) .stores) b
-    unfolding operation writing stored-at
+    unfolding operation stored-at
     write-store f e = rw (e, stored-kind) (stores-by (object-at p b .content) f)
 
     pub erase-store : r ≡ with-record p (with-content (put-at k src []) (object-at p b)) b → a ≡ EraseAndWrite →
         r ≡ stored-at p (record-does a c (object-at p b) .stores) b
-    unfolding operation writing stored-at
+    unfolding operation stored-at
     erase-store f e = rw (e, stored-kind) (stores-by [] f)
 
   pub set-store : (d r : List ℕ) → d ≡ sent-metadata c → r ≡ with-record p (with-fields (sent-fields d) (object-at p b)) b → a ≡ SetMetadata →
       r ≡ stored-at p (record-does a c (object-at p b) .stores) b
-  unfolding operation setting-metadata stored-at
+  unfolding operation stored-at
   set-store d r ed f e = rw e (f ∙ ap (λ x. with-record p (with-fields (sent-fields x) (object-at p b)) b) ed)
-
-  -- what is answered
-  module _ (r xs : List ℕ) where
-    pub data-answer : r ≡ put-in-front (done-response (take (asked-length c) (drop (offset c) (object-at p b .content)))) xs → a ≡ GetData →
-        r ≡ put-in-front (done-response (record-does a c (object-at p b) .answer)) xs
-    unfolding operation getting
-    data-answer f e = rw e f
-
-    pub metadata-answer : r ≡ put-in-front (done-response (metadata (object-at p b))) xs → a ≡ GetMetadata →
-        r ≡ put-in-front (done-response (record-does a c (object-at p b) .answer)) xs
-    unfolding operation getting-metadata
-    metadata-answer f e = rw e f
-
-    module _ (f : r ≡ put-in-front (done-response []) xs) where
-      pub write-silent : a ≡ Write → r ≡ put-in-front (done-response (record-does a c (object-at p b) .answer)) xs
-      unfolding operation writing
-      write-silent e = rw e f
-
-      pub erase-silent : a ≡ EraseAndWrite → r ≡ put-in-front (done-response (record-does a c (object-at p b) .answer)) xs
-      unfolding operation writing
-      erase-silent e = rw e f
-
-      pub set-silent : a ≡ SetMetadata → r ≡ put-in-front (done-response (record-does a c (object-at p b) .answer)) xs
-      unfolding operation setting-metadata
-      set-silent e = rw e f

@@ -20,10 +20,10 @@ use Rattle.rules.specs.Expression.{is-state}
 use Rattle.rules.specs.Refusals.{early, unsound, ill-sized, unknown-param}
 use Rattle.rules.proofs.Tests.{or-parts}
 use Rattle.rules.proofs.Verdicts.{early-passed}
-use Rattle.rules.proofs.Rows.{in-full}
+use Rattle.rules.proofs.Rows.{on-object, in-full}
 use Rattle.command.specs.Table.{action-sizes, row-sizes, InFull}
 use Rattle.command.specs.InForm.{InForm}
-use Rattle.command.proofs.Table.{sizes-alike, takes-object}
+use Rattle.command.proofs.Table.{sizes-alike}
 
 none-of-three : (x y z : Bool) → (x || y || z) ≡ false → (x ≡ false) × (y ≡ false) × (z ≡ false)
 none-of-three x y z h =
@@ -73,6 +73,10 @@ module _ (sound : Bool) (c : List ℕ) (s : Session) where
       let q : action-sizes a .least ≡ line-of c .sizes .least = ap (λ r. row-sizes r .least) (sym e) ∙ ap (λ (z : Sizes). z .least) (sizes-alike c) in
       omega (arith, n, q)
 
+  -- the object's number is there
+  pub object-long : (a : Action) → early sound c s ≡ Accepted → row c ≡ OnObject a → 6 ≤ length c
+  object-long a h e = omega (arith, in-full sound c s h, on-object c a e .takes-object)
+
 -- the bounds that the parts of a command ask for
 long-enough : (a v : Action) (c : List ℕ) (k : ℕ) → InFull a c → a ≡ v → k ≤ action-sizes v .least + 4 → k ≤ length c
 long-enough a v c k h e l = let n : action-sizes v .least + 4 ≤ length c = rw e at h in omega arith
@@ -97,7 +101,3 @@ module _ (a : Action) (c : List ℕ) (h : InFull a c) where
   metadata-part e = long-enough a SetMetadata c 6 h e (omega arith)
 
 pub ruleset parts-there = (get-parts, write-parts, write-byte, erase-parts, erase-byte, metadata-part)
-
--- the object's number is there
-pub object-long : (a : Action) (c : List ℕ) → InFull a c → 6 ≤ length c
-object-long a c h = omega (arith, h, takes-object a)

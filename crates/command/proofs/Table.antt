@@ -1,12 +1,10 @@
 -- What the command table says of a command's row is what it says of its line.
-use Prim.Native.Nat.{ℕ, _≤_}
-use mathlib.Core.Bool.{Bool, true, false, _&&_, _||_}
+use Prim.Native.Nat.{ℕ}
+use mathlib.Core.Bool.{Bool, true, false, _&&_}
 use mathlib.Core.List.{List, [], _∷_}
 use mathlib.Core.Path.{_≡_, refl, sym, ap, _∙_}
-use native.Mathlib.Omega.{arith}
 use lib.Dec.{eqb}
 use Rattle.rules.specs.declared.Action.{Action}
-use Rattle.rules.specs.declared.Action.the-variants.{GetData, GetMetadata, Write, EraseAndWrite, SetMetadata}
 use Rattle.rules.specs.declared.Row.{Row}
 use Rattle.rules.specs.declared.Row.the-variants.{OnObject, OpenApplication, CloseApplication, Unknown}
 use Rattle.rules.specs.declared.Sizes.{Sizes}
@@ -27,22 +25,13 @@ rows-alike (l ∷ ls) c p = by (eqb c (l .cmd) && eqb p (l .param)) (rows-alike 
 -- the sizes of a row are those of its line
 pub sizes-alike : (c : List ℕ) → row-sizes (row c) ≡ line-of c .sizes
 unfolding row line-of command-table table-line no-line
-sizes-alike c =
-    every-line (λ l. row-sizes (l .row) ≡ l .sizes) command-table (cmd c) (param c) (refl, (refl, (refl, (refl, (refl, (refl, (refl, tt))))))) refl
+sizes-alike c = every-line (λ l. row-sizes (l .row) ≡ l .sizes) command-table (cmd c) (param c) (search refl) refl
 
 pub sizes-by : (w v : Action) (z : Sizes) → w ≡ v → z ≡ action-sizes v → z ≡ action-sizes w
 sizes-by w v z e f = f ∙ ap action-sizes (sym e)
 
 pub row-sizes-by : (w v : Row) (z : Sizes) → w ≡ v → z ≡ row-sizes v → z ≡ row-sizes w
 row-sizes-by w v z e f = f ∙ ap row-sizes (sym e)
-
--- InData of an action takes in the object
-pub takes-object : (a : Action) → 2 ≤ action-sizes a .least
-takes-object GetData = omega arith
-takes-object GetMetadata = omega arith
-takes-object Write = omega arith
-takes-object EraseAndWrite = omega arith
-takes-object SetMetadata = omega arith
 
 -- only an open must send the identifier
 abbrev pub takes : Row → List ℕ → Bool
@@ -53,8 +42,7 @@ takes Unknown b = true
 
 pub takes-alike : (c b : List ℕ) → takes (row c) b ≡ line-of c .takes b
 unfolding row line-of command-table table-line no-line anything
-takes-alike c b =
-    every-line (λ l. takes (l .row) b ≡ l .takes b) command-table (cmd c) (param c) (refl, (refl, (refl, (refl, (refl, (refl, (refl, tt))))))) refl
+takes-alike c b = every-line (λ l. takes (l .row) b ≡ l .takes b) command-table (cmd c) (param c) (search refl) refl
 
 pub takes-by : (c b : List ℕ) (v : Row) → row c ≡ v → line-of c .takes b ≡ takes v b
 takes-by c b v e = sym (takes-alike c b) ∙ ap (λ r. takes r b) e
@@ -62,12 +50,12 @@ takes-by c b v e = sym (takes-alike c b) ∙ ap (λ r. takes r b) e
 -- the four Cmds
 pub known-alike : (n : ℕ) → among (0x01 ∷ 0x02 ∷ 0x70 ∷ 0x71 ∷ []) n ≡ known-cmd command-table n
 unfolding known-cmd command-table table-line among
-known-alike n = by (eqb n 0x01) (eqb n 0x02)
+known-alike n = by (eqb n 0x01) (eqb n 0x02) refl refl
   where
-    by : (a b : Bool) → a || (b || (eqb n 0x70 || (eqb n 0x71 || false))) ≡ a || (a || (b || (b || (b || (eqb n 0x70 || (eqb n 0x71 || false))))))
-    by true b = refl
-    by false true = refl
-    by false false = refl
+    by : (a b : Bool) → eqb n 0x01 ≡ a → eqb n 0x02 ≡ b → among (0x01 ∷ 0x02 ∷ 0x70 ∷ 0x71 ∷ []) n ≡ known-cmd command-table n
+    by true b e f = rw e
+    by false true e f = rw (e, f)
+    by false false e f = rw (e, f)
 
 pub known-by : (r : Bool) (n : ℕ) → r ≡ among (0x01 ∷ 0x02 ∷ 0x70 ∷ 0x71 ∷ []) n → r ≡ known-cmd command-table n
 known-by r n e = e ∙ known-alike n

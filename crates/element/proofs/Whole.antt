@@ -27,7 +27,7 @@ use Rattle.rules.specs.Factory.{fresh-session}
 use Rattle.rules.specs.Session.{session-object, with-opened}
 use Rattle.rules.specs.Chain.{_and-then_}
 use Rattle.rules.specs.Access.{Seen, seen, seen-in, named, granted}
-use Rattle.rules.specs.Operation.{getting, getting-metadata, writing, setting-metadata, operation, setting-session}
+use Rattle.rules.specs.Operation.{operation, setting-session}
 use Rattle.rules.specs.Refusals.{early, Ruling, ruling-on, ruling-of, ruling, late, verdict}
 use Rattle.rules.specs.Step.{raised, declined, replacing, performed, answered, judged, flushed, unanswered, step}
 use Rattle.rules.proofs.Tests.{some-else}
@@ -76,7 +76,7 @@ session-told SetMetadata c k byte room h = absurd (not-accepted h)
 
 -- and at a found record
 record-told : (a : Action) (c : List ℕ) (o : Object) (see : Seen) (room : ℕ) → LatePassed a c o see room → OnRecordMay a c o room
-unfolding operation getting getting-metadata writing setting-metadata
+unfolding operation
 record-told GetData c o see room l =
     let within = leb-true (offset c + asked-length c) (used o) (not-false _ (passed _ _ _ (l .own) .0)) in
     (within, omega (arith, l .fits, shown-length c (o .content) within))
@@ -89,7 +89,7 @@ record-told SetMetadata c o see room l = (not-false _ (passed _ _ _ (l .own) .0)
 session-alike : (a : Action) (c : List ℕ) (n byte room : ℕ) (k : Kind) (os : List Object) (s : Session) → InSessionMay a c room →
     (session-does a c n byte s .session ≡ operation a c (session-object n k byte) (seen os s) .session) ×
     (session-does a c n byte s .answer ≡ operation a c (session-object n k byte) (seen os s) .answer)
-unfolding operation getting writing session-object seen
+unfolding operation session-object seen
 session-alike GetData c n byte room k os s m = (refl, refl)
 session-alike GetMetadata c n byte room k os s m = absurd m
 session-alike Write c n byte room k os s m = (refl, refl)
@@ -272,7 +272,7 @@ module _ (c b room : List ℕ) (s : Session) (a : early (is-some (unpack b)) c s
   in-full w acts = action-in-full (is-some (unpack b)) c s w a acts
 
   pub object-there : (w : Action) → row c ≡ OnObject w → 6 ≤ length c
-  object-there w acts = object-long w c (in-full w acts)
+  object-there w acts = object-long (is-some (unpack b)) c s w a acts
 
 -- `execute` ---------------------------------------------------------------------------------------------------------------------------
 

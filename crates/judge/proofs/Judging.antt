@@ -27,7 +27,7 @@ use Rattle.rules.specs.Metadata.{metadata, metadata-allowed}
 use Rattle.rules.specs.Session.{session-change, session-object}
 use Rattle.rules.specs.Chain.{_refused_or_, _and-then_}
 use Rattle.rules.specs.Access.{Seen, holds, asked, granted}
-use Rattle.rules.specs.Operation.{getting, getting-metadata, value-allowed, writing, setting-metadata, operation}
+use Rattle.rules.specs.Operation.{value-allowed, writing, operation}
 use Rattle.rules.specs.Refusals.{ruling-on, fitting, late}
 use Rattle.rules.proofs.Tests.{or-parts}
 use Rattle.rules.proofs.Facts.{storable, allowed}
@@ -146,15 +146,15 @@ module _ (c : List ℕ) (o : Object) (see : Seen) (room : ℕ) where
   own a = operation a c o see .verdict and-then fitting (length (operation a c o see .answer)) room
 
   get-own : get-verdict c (used o) room ≡ own GetData
-  unfolding operation getting
+  unfolding operation
   get-own = get-lengths (offset c) (asked-length c) room (o .content) ∙ sym (one-step _ BoundaryExceeded _)
 
   tell-own : fitting (length (metadata o)) room ≡ own GetMetadata
-  unfolding operation getting-metadata _and-then_
+  unfolding operation _and-then_
   tell-own = refl
 
   set-own : metadata-verdict (o .lcso) (sent-metadata c) room ≡ own SetMetadata
-  unfolding operation setting-metadata
+  unfolding operation
   set-own = sym (one-step _ InvalidData _)
 
   -- a write, over any old content

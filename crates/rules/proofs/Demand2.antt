@@ -65,24 +65,14 @@ module _ (c : List ℕ) (o : Object) (see : Seen) (kind : of-session (o .kind) �
   unfolding writing
   writing-puts old = rw kind
 
-  writing-silent : (old : List ℕ) → writing old c o see .answer ≡ []
-  unfolding writing
-  writing-silent old = refl
-
   action-writes : (a : Action) → writes a ≡ true → Writing a c o see
   unfolding operation content-allowed changed writes granted asked
   action-writes GetData w = absurd (false≢true w)
   action-writes GetMetadata w = absurd (false≢true w)
-  action-writes Write w = search (writing-takes, writing-took, writing-puts, writing-silent)
-  action-writes EraseAndWrite w = search (writing-takes, writing-took, writing-puts, writing-silent)
+  action-writes Write w = search (writing-takes, writing-took, writing-puts)
+  action-writes EraseAndWrite w = search (writing-takes, writing-took, writing-puts)
   action-writes SetMetadata w =
-      record {
-        asks = rw kind;
-        takes = λ h. unfold setting-metadata _refused_or_ in rw h;
-        took = metadata-took;
-        silent = unfold setting-metadata in refl;
-        puts = unfold setting-metadata in refl;
-      }
+      record { asks = rw kind; takes = λ h. unfold setting-metadata _refused_or_ in rw h; took = metadata-took; silent = refl; puts = refl }
     where
       metadata-took : setting-metadata c o see .verdict ≡ Accepted → metadata-allowed (o .lcso) (sent-metadata c) ≡ true
       metadata-took h = unfold setting-metadata in not-false (metadata-allowed (o .lcso) (sent-metadata c)) (passed _ _ _ h .0)
@@ -246,7 +236,7 @@ module _ (c room store : List ℕ) (s : Session) (os : List Object) (o : Object)
     (acts : row c ≡ OnObject GetData) (names-it : named (object-number c) (seen os (flushed c s)) ≡ some o) where
   pub read-accepted : well-formed c ≡ true → holds (seen os (flushed c s)) (o .lcso) (o .read) ≡ true → offset c + asked-length c ≤ used o →
       4 + asked-length c ≤ length room → verdict true c (length room) (seen os (flushed c s)) ≡ Accepted
-  unfolding granted asked operation getting _refused_or_
+  unfolding granted asked operation _refused_or_
   read-accepted w h within fits =
       accepted-by c room store s os ready GetData acts o names-it w
       (record {
@@ -263,7 +253,7 @@ module _ (c room store : List ℕ) (s : Session) (os : List Object) (o : Object)
     pub fits : 4 + asked-length c ≤ length room
 
   pub accepted-read : verdict true c (length room) (seen os (flushed c s)) ≡ Accepted → ReadPassed
-  unfolding granted asked operation getting
+  unfolding granted asked operation
   accepted-read e =
       let l = late-by c room store s os ready GetData acts o names-it e in
       let within = leb-true (offset c + asked-length c) (used o) (not-false _ (passed _ _ _ (l .own) .0)) in
@@ -280,7 +270,7 @@ module _ (c room store : List ℕ) (s : Session) (os : List Object) (o : Object)
 
   pub read-step : verdict true c (length room) (seen os (flushed c s)) ≡ Accepted →
       step c room store s ≡ bytes-shown c (o .content) room store (operation GetData c o (seen os (flushed c s)) .session)
-  unfolding performed replacing operation getting
+  unfolding performed replacing operation
   read-step e =
       performed-by c room store s os ready GetData acts o names-it e ∙
       (λ i. record {

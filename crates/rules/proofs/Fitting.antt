@@ -19,7 +19,7 @@ use Rattle.rules.specs.Expression.{Expression, never, expression-with, e
 use Rattle.rules.specs.Object.{Object, of-session, data-allowed, object-allowed, with-content}
 use Rattle.rules.specs.Metadata.{Field, field-allowed, fields-allowed, value-of, sent-state, sent-expression, with-fields, metadata-allowed, sent-fields}
 use Rattle.rules.specs.Access.{Seen, holds, asked, granted}
-use Rattle.rules.specs.Operation.{put-at, getting, getting-metadata, writing, setting-metadata, operation}
+use Rattle.rules.specs.Operation.{put-at, writing, operation}
 use Rattle.rules.proofs.Tests.{and-left, and-right, at-place}
 use Rattle.rules.proofs.Facts.{allowed, allowed-by}
 use Rattle.rules.proofs.Verdicts.{passed}
@@ -134,7 +134,7 @@ written old c o see new h l v e =
 -- what an accepted action stores fits
 pub operation-fitting : (a : Action) (c : List ℕ) (o : Object) (see : Seen) (new : Object) → object-allowed o ≡ true →
     operation a c o see .verdict ≡ Accepted → operation a c o see .stores ≡ some new → Fitting o new
-unfolding operation getting getting-metadata setting-metadata
+unfolding operation
 operation-fitting GetData c o see new h v e = let z : _≡_ {A = ℕ} 0 1 = cc in absurd (omega arith)
 operation-fitting GetMetadata c o see new h v e = let z : _≡_ {A = ℕ} 0 1 = cc in absurd (omega arith)
 operation-fitting Write c o see new h v e = written (o .content) c o see new h (allowed o h .used-fits) v e
@@ -147,7 +147,7 @@ operation-fitting SetMetadata c o see new h v e =
 -- and nothing is stored in the place of an object of the session
 pub operation-outside : (a : Action) (c : List ℕ) (o : Object) (see : Seen) (new : Object) → granted a o see ≡ true →
     operation a c o see .stores ≡ some new → of-session (o .kind) ≡ false
-unfolding operation getting getting-metadata writing setting-metadata granted asked
+unfolding operation granted asked
 operation-outside GetData c o see new g e = let z : _≡_ {A = ℕ} 0 1 = cc in absurd (omega arith)
 operation-outside GetMetadata c o see new g e = let z : _≡_ {A = ℕ} 0 1 = cc in absurd (omega arith)
 operation-outside Write c o see new g e = not-chosen (of-session (o .kind)) _ new e .0

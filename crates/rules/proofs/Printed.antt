@@ -25,7 +25,7 @@ use Rattle.rules.specs.Layout.{unpack}
 use Rattle.rules.specs.Factory.{factory-store, fresh-session}
 use Rattle.rules.specs.Metadata.{field, fields-bytes, object-fields, led-by-20, metadata}
 use Rattle.rules.specs.Access.{Seen, seen, named, asked, granted}
-use Rattle.rules.specs.Operation.{getting-metadata, writing, setting-metadata, operation, setting-session}
+use Rattle.rules.specs.Operation.{operation, setting-session}
 use Rattle.rules.specs.Refusals.{ruling-on, ruling-of, ruling, verdict}
 use Rattle.rules.specs.Step.{After, declined, performed, answered, judged, flushed, step}
 use Rattle.rules.specs.Program.{upper-hex, line, response-in, answer-line, lines, printed}
@@ -72,7 +72,7 @@ get-size c =
 -- what is no get of data answers no data, or the metadata of a stored object
 operation-short : (a : Action) (c : List ℕ) (o : Object) (see : Seen) → (a ≡ GetData → ⊥) → granted a o see ≡ true →
     (of-session (o .kind) ≡ false → Allowed o) → length (operation a c o see .answer) ≤ 100
-unfolding operation getting-metadata writing setting-metadata granted asked
+unfolding operation granted asked
 operation-short GetData c o see other g known = absurd (other refl)
 operation-short GetMetadata c o see other g known = metadata-length o (known (not-never (of-session (o .kind)) see (o .lcso) always g))
 operation-short Write c o see other g known = omega arith

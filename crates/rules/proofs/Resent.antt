@@ -25,7 +25,7 @@ use Rattle.rules.specs.Layout.{unpack, find}
 use Rattle.rules.specs.Session.{session-change, session-object, session-objects, with-error}
 use Rattle.rules.specs.Chain.{_refused_or_, _and-then_}
 use Rattle.rules.specs.Access.{Seen, seen, named, holds, asked, granted}
-use Rattle.rules.specs.Operation.{getting, getting-metadata, writing, setting-metadata, setting-session, operation}
+use Rattle.rules.specs.Operation.{setting-session, operation}
 use Rattle.rules.specs.Refusals.{ruling-on, ruling-of, ruling, fitting, late, verdict}
 use Rattle.rules.specs.Step.{After, raised, declined, answered, judged, flushed, step}
 use Rattle.rules.proofs.Views.{error-aside, early-alike, ruling-alike, late-alike}
@@ -42,7 +42,7 @@ module _ (a : Action) (c : List ℕ) (see : Seen) (room n m : ℕ) where
   byte-late a b = late (ruling-on a c (some (session-object 0xF1C2 Status b)) see) room
 
   error-same : byte-late a n ≡ byte-late a m
-  unfolding late ruling-on granted asked operation getting getting-metadata writing setting-metadata session-object session-change of-session is kind-number holds _refused_or_ _and-then_
+  unfolding late ruling-on granted asked operation session-object session-change of-session is kind-number holds _refused_or_ _and-then_
   error-same = by a
     where
       by : (a : Action) → byte-late a n ≡ byte-late a m

@@ -23,7 +23,7 @@ use Rattle.rules.specs.Object.{Object, in-session}
 use Rattle.rules.specs.Layout.{unpack, find}
 use Rattle.rules.specs.Session.{session-object, session-objects}
 use Rattle.rules.specs.Access.{Seen, seen, named, holds}
-use Rattle.rules.specs.Operation.{getting, operation}
+use Rattle.rules.specs.Operation.{operation}
 use Rattle.rules.specs.Refusals.{unsound, unusable, verdict}
 use Rattle.rules.specs.Step.{flushed, step}
 use Rattle.rules.specs.Demand.{is-done, Ready, session-byte, MayReadByte, after-byte, bytes-shown, Shown, of-object, of-session}
@@ -110,7 +110,7 @@ module _ (c room store : List ℕ) (s : Session) (os : List Object) (ready : Rea
 
   byte-step : verdict true c (length room) (seen os (flushed c s)) ≡ Accepted →
       step c room store s ≡ bytes-shown c (byte ∷ []) room store (after-byte c (flushed c s))
-  unfolding operation getting session-object after-byte seen
+  unfolding operation session-object after-byte seen
   byte-step e = read-step c room store s os object ready acts names-it e
 
   byte-accepted : session-byte (object-number c) (flushed c s) ≡ some byte → verdict true c (length room) (seen os (flushed c s)) ≡ Accepted →

@@ -13,7 +13,7 @@ use Rattle.rules.specs.Object.{Object, in-session}
 use Rattle.rules.specs.Session.{with-error}
 use Rattle.rules.specs.Chain.{_refused_or_, _and-then_}
 use Rattle.rules.specs.Access.{Seen, asked, granted}
-use Rattle.rules.specs.Operation.{Operation, getting, getting-metadata, writing, setting-metadata, setting-session, operation}
+use Rattle.rules.specs.Operation.{Operation, setting-session, operation}
 use Rattle.rules.specs.Refusals.{unsound, unusable, early, Ruling, ruling-on, fitting, late}
 use Rattle.rules.proofs.Named.{holds-alike, state-outside, not-error-object}
 
@@ -43,7 +43,7 @@ pub record Alike (p q : Operation) : Type 0 where
   pub stores : p .stores ≡ q .stores
 
 pub operation-alike : (a : Action) (c : List ℕ) (o : Object) (see other : Seen) → Alike (operation a c o see) (operation a c o other)
-unfolding operation getting getting-metadata writing setting-metadata
+unfolding operation
 operation-alike GetData c o see other = search
 operation-alike GetMetadata c o see other = search
 operation-alike Write c o see other = search
@@ -72,7 +72,7 @@ late-alike r q room a = λ i. a .verdict i and-then fitting (length (a .does .an
 
 -- an action on an object outside the session leaves the session
 pub session-left : (a : Action) (c : List ℕ) (o : Object) (see : Seen) → in-session (o .number) ≡ false → operation a c o see .session ≡ see .session
-unfolding operation getting getting-metadata writing setting-metadata
+unfolding operation
 session-left GetData c o see h = rw (not-error-object (o .number) h)
 session-left GetMetadata c o see h = refl
 session-left Write c o see h = state-outside (o .number) _ (see .session) h

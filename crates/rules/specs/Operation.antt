@@ -79,8 +79,9 @@ setting-metadata c o see =
       session = see .session;
     }
 
--- every set answers with no data
+-- every set answers with no data; to unfold it is to unfold what each action does
 unfoldable pub operation : Action → List ℕ → Object → Seen → Operation
+unfolding getting getting-metadata writing setting-metadata
 operation GetData c o see = getting c o see
 operation GetMetadata c o see = getting-metadata o see
 operation Write c o see = writing (o .content) c o see

@@ -1,12 +1,16 @@
 -- `access::granted` meets its contract.
-use Rattle.access.proofs.Holding.{free, by-read, by-change, by-change-erasing, by-change-metadata}
+use mathlib.Core.Path.{refl}
+use Rattle.rules.specs.Access.{asked}
+use Rattle.rules.specs.Object.{expression-in}
+use Rattle.access.proofs.Holding.{free, by-slot, set-asks}
 use borrow.Author.Needs.{needs}
 use Rattle.access.proofs.granted.Statement.{statement}
 use Rattle.access.proofs.granted.Tie as tie
 
 pub granted-spec : {M : Type 1} → statement M
+unfolding asked expression-in
 granted-spec = tie.close (tie.spec
     (λ c κs. search needs) (λ c. search needs) (λ c κs. search needs) (λ c. search needs) (λ c. search needs)
     (λ c κs. search needs) (λ c. search needs) (λ c κs. search needs) (λ c. search needs) (λ c κs. search needs)
-    (λ c. search by-read) (λ c. search free) (λ c. search by-change) (λ c. search by-change-erasing)
-    (λ c. search by-change-metadata))
+    (λ c. search (by-slot, refl)) (λ c. search free) (λ c. search (by-slot, refl)) (λ c. search (by-slot, refl))
+    (λ c. search (by-slot, set-asks)))

@@ -1,11 +1,14 @@
 -- `act::act_on_record` meets its contract.
-use Rattle.act.proofs.Doing.{data-within, data-fits, metadata-fits, write-fits, erase-fits, write-answered, erase-answered, set-answered, set-allowed, data-store, metadata-store, write-store, erase-store, set-store, data-answer, metadata-answer, write-silent, erase-silent, set-silent}
+use Rattle.rules.specs.Operation.{operation}
+use Rattle.act.specs.Acting.{stored-at}
+use Rattle.act.proofs.Doing.{data-within, data-fits, metadata-fits, write-fits, erase-fits, write-answered, erase-answered, set-answered, set-allowed, stored-by, write-store, erase-store, set-store, answered-by}
 use Rattle.command.proofs.InForm.{parts-there}
 use borrow.Author.Needs.{needs}
 use Rattle.act.proofs.act_on_record.Statement.{statement}
 use Rattle.act.proofs.act_on_record.Tie as tie
 
 pub act-on-record-spec : {M : Type 1} → statement M
+unfolding operation stored-at
 act-on-record-spec = tie.close (tie.spec
     (λ c. search needs) (λ c κs. (search needs, search parts-there, search data-within, search data-fits))
     (λ c. search needs) (λ c κs. (search needs, search metadata-fits)) (λ c. search needs) (λ c κs. search parts-there)
@@ -13,8 +16,8 @@ act-on-record-spec = tie.close (tie.spec
     (λ c. search needs) (λ c κs. search parts-there) (λ c κs. search parts-there)
     (λ c κs. (search needs, search erase-fits)) (λ c κs. search erase-answered) (λ c. search needs)
     (λ c κs. search parts-there) (λ c κs. (search needs, search set-allowed)) (λ c κs. search set-answered)
-    (λ c. search needs) (λ c. search needs) (λ c. (search data-store, search data-answer)) (λ c. search needs)
-    (λ c. search needs) (λ c. (search metadata-store, search metadata-answer)) (λ c. search needs) (λ c. search needs)
-    (λ c. (search write-store, search write-silent)) (λ c. search needs) (λ c. search needs)
-    (λ c. (search erase-store, search erase-silent)) (λ c. search needs) (λ c. search needs)
-    (λ c. (search set-store, search set-silent)))
+    (λ c. search needs) (λ c. search needs) (λ c. (search stored-by, search answered-by)) (λ c. search needs)
+    (λ c. search needs) (λ c. (search stored-by, search answered-by)) (λ c. search needs) (λ c. search needs)
+    (λ c. (search write-store, search answered-by)) (λ c. search needs) (λ c. search needs)
+    (λ c. (search erase-store, search answered-by)) (λ c. search needs) (λ c. search needs)
+    (λ c. (search set-store, search answered-by)))
