@@ -17,10 +17,9 @@ use Rattle.rules.specs.Expression.{Group, just, _and_, Groups, only, _or_, Expr
 use Rattle.rules.specs.Expression.{condition-bytes, group-bytes, groups-bytes, expression-bytes, conditions}
 use Rattle.rules.specs.Expression.{read-expression, expression}
 use Rattle.rules.specs.Access.{Seen, seen, seen-in, present, condition-holds, group-holds, groups-hold, holds, asked, granted}
-use Rattle.rules.specs.Object.{Object, of-session, expression-in}
-use Rattle.rules.proofs.Facts.{storable, allowed}
+use Rattle.rules.specs.Object.{Object, expression-in}
 use Rattle.rules.proofs.Named.{holds-alike}
-use Rattle.record.proofs.Standing.{standing}
+use Rattle.record.proofs.Standing.{stored-kind}
 use Rattle.rules.proofs.Expressions.{groups-length, groups-two, expression-read, read-bytes}
 use Rattle.record.specs.Places.{object-at, Stored}
 use Rattle.record.proofs.Parts.{slot-expression}
@@ -142,19 +141,14 @@ module _ (p : ℕ) (b : List ℕ) (t : Stored p b) where
   abbrev o : Object
   o = object-at p b
 
-  stored-kind : of-session (object-at p b .kind) ≡ false
-  stored-kind =
-      let f = allowed o (standing p b (t .stands) .allowed) in
-      storable (o .kind) (o .maximum) (o .content) (f .content) .not-of-session
-
   pub set-asks : asked SetMetadata (object-at p b) ≡ expression-in Change (object-at p b)
   unfolding asked expression-in
-  set-asks = rw stored-kind
+  set-asks = rw (stored-kind p b t)
 
   module _ (a : Action) (s : Session) where
     pub free : a ≡ GetMetadata → true ≡ granted a (object-at p b) (seen-in b s)
     unfolding granted asked holds
-    free e = rw (e, stored-kind)
+    free e = rw (e, stored-kind p b t)
 
     -- where it asks what a slot holds
     pub by-slot : (v : Action) (w : Slot) (lcso : ℕ) (r : Bool) → a ≡ v → asked v (object-at p b) ≡ expression-in w (object-at p b) →

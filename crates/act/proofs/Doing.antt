@@ -1,12 +1,12 @@
 -- What each action does: at an object of the session and at a found record.
 use Prim.Native.Nat.{ℕ, _+_, _<_, _≤_}
 use mathlib.Core.Path.{_≡_, sym, ap, _∙_}
-use mathlib.Core.Bool.{true, false, _&&_, and-true, and-false}
+use mathlib.Core.Bool.{true, _&&_, and-true, and-false}
 use mathlib.Core.List.{List, [], _∷_}
 use native.Mathlib.Omega.{arith}
 use borrow.Author.Tests.{ne-eqb, le-leb, lt-leb}
 use lib.Dec.{eqb, leb}
-use lib.ListN.{length, getD, take, drop, length-take, length-drop}
+use lib.ListN.{length, getD, take, drop}
 use lib.Seq.{getD-drop}
 use Rattle.rules.specs.declared.Session.{Session}
 use Rattle.rules.specs.declared.Action.{Action}
@@ -14,13 +14,13 @@ use Rattle.rules.specs.declared.Action.the-variants.{GetData, GetMetadata, Writ
 use Rattle.rules.specs.Basic.{if_then_else_}
 use Rattle.rules.specs.Command.{offset, asked-length, sent-data, sent-metadata}
 use Rattle.rules.specs.Response.{done-response, put-in-front}
-use Rattle.rules.specs.Object.{used, of-session, with-content}
+use Rattle.rules.specs.Object.{used, with-content}
 use Rattle.rules.specs.Metadata.{metadata, metadata-allowed, sent-fields, with-fields}
 use Rattle.rules.specs.Session.{with-error, with-state}
 use Rattle.rules.specs.Operation.{put-at, operation}
-use Rattle.rules.proofs.Facts.{storable, allowed}
 use Rattle.record.specs.Places.{object-at, Stored, with-record}
-use Rattle.record.proofs.Standing.{standing}
+use Rattle.rules.proofs.Demand2.{shown-length as all-shown}
+use Rattle.record.proofs.Standing.{stored-kind}
 use Rattle.act.specs.Acting.{session-does, record-does, InSessionMay, OnRecordMay, stored-at}
 
 -- `shown_session`
@@ -56,10 +56,7 @@ module _ (c : List ℕ) (n : ℕ) (en : n ≡ asked-length c) where
 
 module _ (c out : List ℕ) (xs : List ℕ) (k n : ℕ) (ek : k ≡ offset c) (en : n ≡ asked-length c) (eo : out ≡ take n (drop k xs)) where
   pub shown-length : offset c + asked-length c ≤ length xs → length out ≡ asked-length c
-  shown-length h = ap length eo ∙ cut
-    where
-      cut : length (take n (drop k xs)) ≡ asked-length c
-      cut = simp (length-take, length-drop) (omega arith)
+  shown-length h = ap length eo ∙ (λ i. length (take (en i) (drop (ek i) xs))) ∙ all-shown c xs h
 
   pub data-answered : (r room : List ℕ) → r ≡ put-in-front (done-response out) room →
       r ≡ put-in-front (done-response (take (asked-length c) (drop (offset c) xs))) room
@@ -153,12 +150,6 @@ module _ (p : ℕ) (b : List ℕ) (a : Action) (c : List ℕ) where
 
   -- what is stored
   module _ (t : Stored p b) (k : ℕ) (src : List ℕ) (ek : k ≡ offset c) (ed : src ≡ sent-data c) (r : List ℕ) where
-    -- a record's kind is not the session's
-    stored-kind : of-session (object-at p b .kind) ≡ false
-    stored-kind =
-        let o = object-at p b in
-        storable (o .kind) (o .maximum) (o .content) (allowed o (standing p b (t .stands) .allowed) .content) .not-of-session
-
     stores-by : (old : List ℕ) → r ≡ with-record p (with-content (put-at k src old) (object-at p b)) b →
         r ≡ with-record p (with-content (put-at (offset c) (sent-data c) old) (object-at p b)) b
     stores-by old f = f ∙ (λ i. with-record p (with-content (put-at (ek i) (ed i) old) (object-at p b)) b)
@@ -166,12 +157,12 @@ module _ (p : ℕ) (b : List ℕ) (a : Action) (c : List ℕ) where
     pub write-store : r ≡ with-record p (with-content (put-at k src (object-at p b .content)) (object-at p b)) b → a ≡ Write →
         r ≡ stored-at p (record-does a c (object-at p b) .stores) b
     unfolding operation stored-at
-    write-store f e = rw (e, stored-kind) (stores-by (object-at p b .content) f)
+    write-store f e = rw (e, stored-kind p b t) (stores-by (object-at p b .content) f)
 
     pub erase-store : r ≡ with-record p (with-content (put-at k src []) (object-at p b)) b → a ≡ EraseAndWrite →
         r ≡ stored-at p (record-does a c (object-at p b) .stores) b
     unfolding operation stored-at
-    erase-store f e = rw (e, stored-kind) (stores-by [] f)
+    erase-store f e = rw (e, stored-kind p b t) (stores-by [] f)
 
   pub set-store : (d r : List ℕ) → d ≡ sent-metadata c → r ≡ with-record p (with-fields (sent-fields d) (object-at p b)) b → a ≡ SetMetadata →
       r ≡ stored-at p (record-does a c (object-at p b) .stores) b

@@ -29,7 +29,7 @@ pub struct Answer {
     pub session: Session,
 }
 
-// What is done at the target of an accepted get or set: the session after it. Nothing at all is refused at step 9.
+// What is done at the target of an accepted get or set: the session after it. A number that names nothing was refused at step 9.
 fn perform(
     asked: Action,
     command: &[u8],

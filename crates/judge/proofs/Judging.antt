@@ -1,8 +1,8 @@
 -- Steps 10 to 13, action by action, at an object of the session and at a found record.
 use Prim.Native.Nat.{ℕ, _+_}
 use mathlib.Core.Path.{_≡_, refl, sym, ap, _∙_}
-use mathlib.Core.Bool.{Bool, true, false, not, _||_}
-use mathlib.Core.List.{List, [], _∷_}
+use mathlib.Core.Bool.{Bool, true, false, not}
+use mathlib.Core.List.{List, []}
 use mathlib.Core.Option.{some}
 use native.Mathlib.Omega.{arith}
 use borrow.Author.Tests.{leb-true, not-true, not-false}
@@ -12,7 +12,6 @@ use lib.Seq.{getD-drop}
 use Rattle.rules.specs.declared.Kind.{Kind}
 use Rattle.rules.specs.declared.Kind.the-variants.{LifeCycle}
 use Rattle.rules.specs.declared.ObjectNumber.{ObjectNumber}
-use Rattle.rules.specs.declared.Session.{Session}
 use Rattle.rules.specs.declared.Verdict.{Verdict}
 use Rattle.rules.specs.declared.Verdict.the-variants.{Refused, Accepted}
 use Rattle.rules.specs.declared.Refusal.{Refusal}
@@ -30,9 +29,8 @@ use Rattle.rules.specs.Access.{Seen, holds, asked, granted}
 use Rattle.rules.specs.Operation.{value-allowed, writing, operation}
 use Rattle.rules.specs.Refusals.{ruling-on, fitting, late}
 use Rattle.rules.proofs.Tests.{or-parts}
-use Rattle.rules.proofs.Facts.{storable, allowed}
 use Rattle.record.specs.Places.{object-at, Stored}
-use Rattle.record.proofs.Standing.{standing}
+use Rattle.record.proofs.Standing.{stored-kind}
 use Rattle.judge.specs.declared.Target.{Target}
 use Rattle.judge.specs.declared.Target.the-variants.{InSession, InStore, Nothing}
 use Rattle.judge.specs.Targets.{target-object, Placed}
@@ -240,10 +238,7 @@ module _ (p : ℕ) (b : List ℕ) (t : Stored p b) (a : Action) (c : List ℕ) (
     module _ (m : ℕ) (em : m ≡ object-at p b .maximum) (f : r ≡ write-verdict c m room) where
       any-value : (state : ℕ) → value-allowed (object-at p b) state ≡ true
       unfolding value-allowed of-session
-      any-value state =
-          let o = object-at p b in
-          let s = allowed o (standing p b (t .stands) .allowed) in
-          rw (or-parts (is LifeCycle (o .kind)) _ (storable (o .kind) (o .maximum) (o .content) (s .content) .not-of-session) .0)
+      any-value state = rw (or-parts (is LifeCycle (object-at p b .kind)) _ (stored-kind p b t) .0)
 
       stored-writing : (old : List ℕ) →
           r ≡ (writing old c (object-at p b) see .verdict and-then fitting (length (writing old c (object-at p b) see .answer)) room)

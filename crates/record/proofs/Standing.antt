@@ -1,6 +1,6 @@
 -- A record at a place of the store: what its bytes say of its object, and its slots.
 use Prim.Native.Nat.{ℕ, _+_, _*_, _-_, _≤_}
-use mathlib.Core.Bool.{true}
+use mathlib.Core.Bool.{true, false}
 use mathlib.Core.List.{List, _++_, append-assoc}
 use mathlib.Core.Path.{_≡_, refl, sym, ap, _∙_}
 use native.Mathlib.Omega.{arith}
@@ -11,9 +11,9 @@ use Rattle.rules.specs.declared.Slot.{Slot}
 use Rattle.rules.specs.declared.Slot.the-variants.{Change, Read, Execute}
 use Rattle.rules.specs.Basic.{same, zeros, little-endian-at}
 use Rattle.rules.specs.Expression.{Expression, expression-bytes, expression-allowed}
-use Rattle.rules.specs.Object.{Object, used, kind-number, object-allowed, expression-in}
+use Rattle.rules.specs.Object.{Object, used, kind-number, of-session, object-allowed, expression-in}
 use Rattle.rules.specs.Layout.{slot-size, slots-at, head-size, slot-at, record-size, slot, record-bytes, read-record, record-bytes-with, slot-at-with, slot-of-with}
-use Rattle.rules.proofs.Facts.{allowed}
+use Rattle.rules.proofs.Facts.{storable, allowed}
 use Rattle.rules.proofs.Tests.{and-left, and-right, same-eq, same-refl}
 use Rattle.rules.proofs.Expressions.{expression-length}
 use Rattle.rules.proofs.Inverse.{slot-length, record-length, record-read, two-bytes, past-one, past-two, past-three}
@@ -185,3 +185,9 @@ stored-facts p b h =
       read-small = slot-small _ b _ (slot-here p b o r ok (s .here) Read);
       execute-small = slot-small _ b _ (slot-here p b o r ok (s .here) Execute);
     }
+
+-- the kind of what is stored is none of the session's
+pub stored-kind : (p : ℕ) (b : List ℕ) → Stored p b → of-session (object-at p b .kind) ≡ false
+stored-kind p b t =
+    let o = object-at p b in
+    storable (o .kind) (o .maximum) (o .content) (allowed o (standing p b (t .stands) .allowed) .content) .not-of-session
