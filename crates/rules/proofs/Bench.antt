@@ -1,5 +1,4 @@
--- P1 to P12, the bench sheet's other lines, the six slips and a case for each sentence of document 01 follow from the rules: antt computes
--- the tables.
+-- P1 to P12, the bench sheet's other lines, the six slips and the cases of lists follow from the rules: antt computes the tables.
 use mathlib.Core.Bool.{Bool, true}
 use mathlib.Core.List.{List}
 use Rattle.mixing.specs.Runs.{answers, end}
@@ -23,13 +22,12 @@ use Rattle.rules.specs.Program.{digit, upper-hex, line, response-in, ans
 use Rattle.rules.specs.Run.{reply, left, run}
 use Rattle.rules.specs.Demand.{reads-or-writes, object-of}
 use Rattle.rules.specs.Cases.{same-session, _gives_, _refused_leaving_, unanswered-in, in-room, room-of, done-empty, responds, as-expected, talk-right, store-after, turn, told, same-replies, same-number, Case, run-right, right, all-right}
-use Rattle.rules.specs.Bench.{open-command, factory-metadata, cases, more-cases, slip-cases}
-use Rattle.rules.specs.Sentences.{padded, by-hand, first-record, second-record, third-record, three, large, smallest, largest, many, factory-140, factory-1500, factory-by-hand, first-metadata, second-metadata, text-line}
-use Rattle.rules.specs.Sentences.{command-cases, form-cases, row-cases, object-cases, expression-cases, store-cases, size-cases, factory-cases, session-cases, data-cases, metadata-cases, run-cases, program-cases}
+use Rattle.rules.specs.Stores.{padded, by-hand, first-record, second-record, third-record, three, large, smallest, largest, many, factory-140, factory-1500, factory-by-hand, first-metadata, second-metadata}
+use Rattle.rules.specs.Bench.{open-command, factory-metadata, cases, more-cases, slip-cases, run-cases}
 
 -- `unfolding computed` opens every rule
-computed : List Case → Bool
-unfolding all among same rising-from rising little-endian-at ascii digits pairs hex asks-flush cmd param in-length in-data size-right identifier anything table-line command-table known-cmd no-line line-in line-of row object-number offset asked-length sent-data sent-metadata done-response refused-response put-in-front is-state may-become condition-bytes group-bytes groups-bytes expression-bytes condition-allowed group-allowed groups-allowed group-size conditions groups expression-allowed-with in-first read-groups read-expression expression-with kind-number read-kind is of-session data-allowed in-session object-allowed-with all-allowed-with with-content read-slot size-with objects-allowed-with slot-of-with record-bytes-with pack-with read-record-with read-records-with unpack-with find replaced entry table before-operational made factory-objects factory-store fresh-session factory-outcome factory-made with-opened with-lcsg with-lcsa with-error with-state session-change session-object session-objects seen named present condition-holds group-holds groups-hold holds asked granted field fields-bytes object-fields led-by-20 metadata read-fields sent-fields field-allowed fields-allowed metadata-allowed value-of sent-state sent-expression with-fields _refused_or_ _and-then_ put-at value-allowed operation setting-session unsound ill-sized unknown-cmd unusable unknown-param wrong-length wrong-content early ruling-on ruling-of ruling fitting late verdict raised declined replacing performed answered judged flushed unanswered step digit upper-hex line response-in answer-line lines printed answers end reply left run reads-or-writes object-of same-session _gives_ _refused_leaving_ unanswered-in in-room room-of done-empty responds as-expected talk-right store-after turn told same-replies same-number run-right right all-right open-command factory-metadata cases more-cases slip-cases padded by-hand first-record second-record third-record three large smallest largest many factory-140 factory-1500 factory-by-hand first-metadata second-metadata text-line command-cases form-cases row-cases object-cases expression-cases store-cases size-cases factory-cases session-cases data-cases metadata-cases run-cases program-cases
+unfoldable pub computed : List Case → Bool
+unfolding all among same rising-from rising little-endian-at ascii digits pairs hex asks-flush cmd param in-length in-data size-right identifier anything table-line command-table known-cmd no-line line-in line-of row object-number offset asked-length sent-data sent-metadata done-response refused-response put-in-front is-state may-become condition-bytes group-bytes groups-bytes expression-bytes condition-allowed group-allowed groups-allowed group-size conditions groups expression-allowed-with in-first read-groups read-expression expression-with kind-number read-kind is of-session data-allowed in-session object-allowed-with all-allowed-with with-content read-slot size-with objects-allowed-with slot-of-with record-bytes-with pack-with read-record-with read-records-with unpack-with find replaced entry table before-operational made factory-objects factory-store fresh-session factory-outcome factory-made with-opened with-lcsg with-lcsa with-error with-state session-change session-object session-objects seen named present condition-holds group-holds groups-hold holds asked granted field fields-bytes object-fields led-by-20 metadata read-fields sent-fields field-allowed fields-allowed metadata-allowed value-of sent-state sent-expression with-fields _refused_or_ _and-then_ put-at value-allowed operation setting-session unsound ill-sized unknown-cmd unusable unknown-param wrong-length wrong-content early ruling-on ruling-of ruling fitting late verdict raised declined replacing performed answered judged flushed unanswered step digit upper-hex line response-in answer-line lines printed answers end reply left run reads-or-writes object-of same-session _gives_ _refused_leaving_ unanswered-in in-room room-of done-empty responds as-expected talk-right store-after turn told same-replies same-number run-right right all-right open-command factory-metadata cases more-cases slip-cases padded by-hand first-record second-record third-record three large smallest largest many factory-140 factory-1500 factory-by-hand first-metadata second-metadata run-cases
 computed cs = all-right cs
 
 -- P1 to P12
@@ -47,69 +45,7 @@ pub no-slip : all-right slip-cases ≡ true
 unfolding computed
 no-slip = refl
 
--- a case for each sentence, row and cell of document 01, by its sections ------------------------------------------------------------
-
--- Command and response bytes
-pub command-sentences : all-right command-cases ≡ true
-unfolding computed
-command-sentences = refl
-
--- When the element says no: steps 1 to 4
-pub form-sentences : all-right form-cases ≡ true
-unfolding computed
-form-sentences = refl
-
--- steps 5 to 8
-pub row-sentences : all-right row-cases ≡ true
-unfolding computed
-row-sentences = refl
-
--- steps 9 to 13
-pub object-sentences : all-right object-cases ≡ true
-unfolding computed
-object-sentences = refl
-
--- Life cycles and access expressions
-pub expression-sentences : all-right expression-cases ≡ true
-unfolding computed
-expression-sentences = refl
-
--- What an object holds on the controller
-pub store-sentences : all-right store-cases ≡ true
-unfolding computed
-store-sentences = refl
-
--- at most 16,384 bytes
-pub size-sentences : all-right size-cases ≡ true
-unfolding computed
-size-sentences = refl
-
--- the factory store and its maker, the fresh session
-pub factory-sentences : all-right factory-cases ≡ true
-unfolding computed
-factory-sentences = refl
-
--- E0C0, F1C0 and F1C2
-pub session-sentences : all-right session-cases ≡ true
-unfolding computed
-session-sentences = refl
-
--- Reading and writing: data
-pub data-sentences : all-right data-cases ≡ true
-unfolding computed
-data-sentences = refl
-
--- metadata
-pub metadata-sentences : all-right metadata-cases ≡ true
-unfolding computed
-metadata-sentences = refl
-
--- Lists of commands
+-- lists of commands
 pub run-sentences : all-right run-cases ≡ true
 unfolding computed
 run-sentences = refl
-
--- the program
-pub program-sentences : all-right program-cases ≡ true
-unfolding computed
-program-sentences = refl

@@ -1,11 +1,13 @@
--- The bench sheet: P1 to P12 as one table, its other lines, and the six slips.
+-- The bench sheet: P1 to P12 as one table, its other lines, and the six slips; then lists of commands.
 use Prim.Native.Nat.{ℕ}
 use mathlib.Core.Bool.{true, false}
 use mathlib.Core.List.{List, [], _∷_, _++_}
 use Rattle.rules.specs.Basic.{zeros}
 use Rattle.rules.specs.Hex.{hex, ascii}
 use Rattle.rules.specs.Factory.{factory-store, fresh-session}
-use Rattle.rules.specs.Cases.{session, opened, closed, _gives_, _refused_leaving_, done-empty, Case, talk, judge, begins, prints}
+use Rattle.rules.specs.Cases.{session, opened, closed, _gives_, _refused_leaving_, done-empty, turn, told}
+use Rattle.rules.specs.Cases.{Case, talk, judge, begins, reads-writes, runs, prints}
+use Rattle.rules.specs.Stores.{by-hand, second-record, third-record, three}
 
 unfoldable pub open-command : List ℕ
 open-command = hex "70 00 00 10 D2 76 00 00 04 47 65 6E 41 75 74 68 41 70 70 6C"
@@ -130,3 +132,37 @@ slip-cases =
     hex "02 40 00 05 E0 C0 00 00 03" refused 0x05 leaving 0x05 ∷
     hex "01 00 00 06 E0 C0 00 00 00 01" gives hex "00 00 00 01 07" ∷ [])
     (session true 0x07 0x01 0x05) ∷ []
+
+-- lists of commands
+unfoldable pub run-cases : List Case
+run-cases =
+    -- a read or write command: first byte, the flush bit aside, 01 or 02
+    reads-writes (hex "01") true ∷ reads-writes (hex "82 77") true ∷ reads-writes (hex "70 00 00 00") false ∷ reads-writes (hex "71") false ∷
+    reads-writes (hex "00") false ∷ reads-writes (hex "03") false ∷ reads-writes [] false ∷
+    -- each command works on what the one before left, also after a refusal or outcome 1
+    runs three (opened 0x00)
+    (turn (hex "02 00 00 05 F1 D0 00 03 AA") (hex "EE EE EE EE EE") ∷
+    turn (hex "01 00 00 06 F1 D0 00 02 00 02") (hex "11 22 33 44 55 66 77") ∷
+    turn (hex "01 00 00 06 F1 D0 00 02 00 02") (hex "11 22 33") ∷
+    turn (hex "01 00 00 06 F1 D0 00 02 00 03") (hex "11 22 33 44 55") ∷
+    turn (hex "02 01 00 07 F1 D0 20 03 C0 01 07") (hex "EE EE EE EE") ∷
+    turn (hex "02 00 00 05 F1 D0 00 00 BB") (hex "EE EE EE EE EE") ∷
+    turn (hex "01 00 00 06 F1 D0 00 00 00 01") (hex "EE EE EE EE EE") ∷ [])
+    (told 0 (hex "00 00 00 00 EE") ∷
+    told 0 (hex "00 00 00 02 0C AA 77") ∷
+    told 1 (hex "11 22 33") ∷
+    told 0 (hex "FF 00 00 00 55") ∷
+    told 0 (hex "00 00 00 00") ∷
+    told 0 (hex "FF 00 00 00 EE") ∷
+    told 0 (hex "00 00 00 01 0A") ∷ [])
+    (by-hand (hex "64 00 01 00 D0 F1 04 00 04 00 07 00") "03 E1 FC 07" "01 00" "01 00" (hex "0A 0B 0C AA") ++ second-record ++ third-record) (opened 0x08) ∷
+    -- from a bad beginning too
+    runs (hex "00") (closed 0x00) (turn (hex "71 00 00 00") (hex "EE EE EE EE") ∷ turn (hex "F1 00 00 00") (hex "EE EE EE") ∷ [])
+    (told 0 (hex "FF 00 00 00") ∷ told 1 (hex "EE EE EE") ∷ []) (hex "00") (closed 0x06) ∷
+    -- the session goes on: closed, then opened
+    runs three (opened 0x00)
+    (turn (hex "71 00 00 00") (hex "EE EE EE EE") ∷ turn (hex "01 01 00 02 F1 D0") (hex "EE EE EE EE") ∷ turn open-command (hex "EE EE EE EE") ∷ [])
+    (told 0 (hex "00 00 00 00") ∷ told 0 (hex "FF 00 00 00") ∷ told 0 (hex "00 00 00 00") ∷ [])
+    three (opened 0x0C) ∷
+    -- an empty list
+    runs three (closed 0x05) [] [] three (closed 0x05) ∷ []

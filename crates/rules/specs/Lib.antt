@@ -24,7 +24,7 @@ pub mod Run
 pub mod Program
 -- The demands, in their own words
 pub mod Demand
--- Bench sheet, and a case for each sentence
+-- Bench sheet
 pub mod Cases
+pub mod Stores
 pub mod Bench
-pub mod Sentences

@@ -1,0 +1,63 @@
+-- Stores written byte by byte, for cases: no rule's own function is used.
+use Prim.Native.Nat.{ℕ, zero, suc, _-_}
+use mathlib.Core.List.{List, [], _∷_, _++_}
+use Prim.Native.String.{String}
+use lib.ListN.{length, replicate}
+use Rattle.rules.specs.Basic.{zeros}
+use Rattle.rules.specs.Hex.{hex}
+
+-- zeros to the end of n bytes
+unfoldable pub padded : ℕ → List ℕ → List ℕ
+padded n b = b ++ zeros (n - length b)
+
+-- a record: its first 12 bytes, three slots of 28, its data
+unfoldable pub by-hand : List ℕ → String → String → String → List ℕ → List ℕ
+by-hand head change read execute content = head ++ padded 28 (hex change) ++ padded 28 (hex read) ++ padded 28 (hex execute) ++ content
+
+-- F1D0, four bytes of which three are used: changed below operational, read always
+unfoldable pub first-record : List ℕ
+first-record = by-hand (hex "64 00 01 00 D0 F1 04 00 03 00 01 00") "03 E1 FC 07" "01 00" "01 00" (hex "0A 0B 0C 00")
+
+-- F1D1: changed always, read never
+unfoldable pub second-record : List ℕ
+second-record = by-hand (hex "64 00 01 00 D1 F1 04 00 03 00 03 00") "01 00" "01 FF" "03 70 FA 01" (hex "0D 0E 0F 00")
+
+-- F1D2, full: changed never, read at operational and later
+unfoldable pub third-record : List ℕ
+third-record = by-hand (hex "64 00 01 00 D2 F1 04 00 04 00 07 00") "01 FF" "03 E1 FB 03" "01 00" (hex "01 02 03 04")
+
+unfoldable pub three : List ℕ
+three = first-record ++ second-record ++ third-record
+
+-- F1D0, 300 bytes of which 258 are used
+unfoldable pub large : List ℕ
+large = by-hand (hex "8C 01 01 00 D0 F1 2C 01 02 01 01 00") "01 00" "01 00" "01 00" (replicate 256 0x55 ++ hex "AB CD" ++ zeros 42)
+
+-- a record of maximum 1, and one of 1,500, numbered k
+unfoldable pub smallest : ℕ → List ℕ
+smallest k = by-hand (hex "61 00 01 00" ++ k ∷ hex "00 01 00 00 00 01 00") "01 00" "01 00" "01 00" (hex "00")
+
+unfoldable pub largest : ℕ → List ℕ
+largest k = by-hand (hex "3C 06 01 00" ++ k ∷ hex "00 DC 05 00 00 01 00") "01 00" "01 00" "01 00" (zeros 1500)
+
+-- n records, numbered from k on
+unfoldable pub many : (ℕ → List ℕ) → ℕ → ℕ → List ℕ
+many r zero k = []
+many r (suc n) k = r k ++ many r n (suc k)
+
+-- the factory's records of 140 and of 1,500 bytes, under their numbers' low byte
+unfoldable pub factory-140 : ℕ → List ℕ
+factory-140 k = by-hand (hex "EC 00 01 00" ++ k ∷ hex "F1 8C 00 00 00 01 00") "03 E1 FC 07" "01 00" "01 00" (zeros 140)
+
+unfoldable pub factory-1500 : ℕ → List ℕ
+factory-1500 k = by-hand (hex "3C 06 01 00" ++ k ∷ hex "F1 DC 05 00 00 01 00") "03 E1 FC 07" "01 00" "01 00" (zeros 1500)
+
+unfoldable pub factory-by-hand : List ℕ
+factory-by-hand = many factory-140 12 0xD0 ++ many factory-1500 2 0xE0
+
+-- the metadata of F1D0 and F1D1 of `three`
+unfoldable pub first-metadata : List ℕ
+first-metadata = hex "00 00 00 18 20 16 C0 01 01 C4 02 00 04 C5 02 00 03 D0 03 E1 FC 07 D1 01 00 D3 01 00"
+
+unfoldable pub second-metadata : List ℕ
+second-metadata = hex "00 00 00 18 20 16 C0 01 03 C4 02 00 04 C5 02 00 03 D0 01 00 D1 01 FF D3 03 70 FA 01"

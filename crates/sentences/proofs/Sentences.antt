@@ -1,0 +1,72 @@
+-- A case for each sentence, row and cell of document 01 follows from the rules: antt computes the tables.
+use mathlib.Core.Bool.{Bool, true}
+use mathlib.Core.List.{List}
+use mathlib.Core.Path.{_≡_, refl}
+use Rattle.rules.specs.Cases.{Case, all-right}
+use Rattle.rules.proofs.Bench.{computed}
+use Rattle.sentences.specs.Sentences.{text-line, command-cases, form-cases, row-cases, object-cases, expression-cases, store-cases, size-cases, factory-cases, session-cases, data-cases, metadata-cases, program-cases}
+
+-- `unfolding tabled` opens every rule and every table
+tabled : List Case → Bool
+unfolding computed text-line command-cases form-cases row-cases object-cases expression-cases store-cases size-cases factory-cases session-cases data-cases metadata-cases program-cases
+tabled cs = all-right cs
+
+-- Command and response bytes
+pub command-sentences : all-right command-cases ≡ true
+unfolding tabled
+command-sentences = refl
+
+-- When the element says no: steps 1 to 4
+pub form-sentences : all-right form-cases ≡ true
+unfolding tabled
+form-sentences = refl
+
+-- steps 5 to 8
+pub row-sentences : all-right row-cases ≡ true
+unfolding tabled
+row-sentences = refl
+
+-- steps 9 to 13
+pub object-sentences : all-right object-cases ≡ true
+unfolding tabled
+object-sentences = refl
+
+-- Life cycles and access expressions
+pub expression-sentences : all-right expression-cases ≡ true
+unfolding tabled
+expression-sentences = refl
+
+-- What an object holds on the controller
+pub store-sentences : all-right store-cases ≡ true
+unfolding tabled
+store-sentences = refl
+
+-- at most 16,384 bytes
+pub size-sentences : all-right size-cases ≡ true
+unfolding tabled
+size-sentences = refl
+
+-- the factory store and its maker, the fresh session
+pub factory-sentences : all-right factory-cases ≡ true
+unfolding tabled
+factory-sentences = refl
+
+-- E0C0, F1C0 and F1C2
+pub session-sentences : all-right session-cases ≡ true
+unfolding tabled
+session-sentences = refl
+
+-- Reading and writing: data
+pub data-sentences : all-right data-cases ≡ true
+unfolding tabled
+data-sentences = refl
+
+-- metadata
+pub metadata-sentences : all-right metadata-cases ≡ true
+unfolding tabled
+metadata-sentences = refl
+
+-- the program
+pub program-sentences : all-right program-cases ≡ true
+unfolding tabled
+program-sentences = refl
