@@ -6,7 +6,7 @@ use mathlib.Core.List.{List, [], _∷_, _++_}
 use native.Mathlib.Omega.{arith}
 use lib.Dec.{eqb, ltb}
 use lib.ListN.{length, getD, drop}
-use Rattle.rules.proofs.Tests.{and-assoc}
+use Rattle.laws.proofs.Tests.{and-assoc}
 use Rattle.rules.specs.declared.Session.{Session}
 use Rattle.rules.specs.declared.Action.{Action}
 use Rattle.rules.specs.declared.Action.the-variants.{GetMetadata, SetMetadata}
@@ -18,9 +18,9 @@ use Rattle.rules.specs.Expression.{condition-bytes, group-bytes, groups-bytes, 
 use Rattle.rules.specs.Expression.{read-expression, expression}
 use Rattle.rules.specs.Access.{Seen, seen, seen-in, present, condition-holds, group-holds, groups-hold, holds, asked, granted}
 use Rattle.rules.specs.Object.{Object, expression-in}
-use Rattle.rules.proofs.Named.{holds-alike}
+use Rattle.laws.proofs.Named.{holds-alike}
 use Rattle.record.proofs.Standing.{stored-kind}
-use Rattle.rules.proofs.Expressions.{groups-length, groups-two, expression-read, read-bytes}
+use Rattle.laws.proofs.Expressions.{groups-length, groups-two, expression-read, read-bytes}
 use Rattle.record.specs.Places.{object-at, Stored}
 use Rattle.record.proofs.Parts.{slot-expression}
 use Rattle.expression.specs.Conditions.{condition-at}

@@ -19,7 +19,7 @@ use Rattle.rules.specs.Metadata.{metadata, metadata-allowed, sent-fields, with-
 use Rattle.rules.specs.Session.{with-error, with-state}
 use Rattle.rules.specs.Operation.{put-at, operation}
 use Rattle.record.specs.Places.{object-at, Stored, with-record}
-use Rattle.rules.proofs.Demand2.{shown-length as all-shown}
+use Rattle.laws.proofs.Puts.{shown-length as all-shown}
 use Rattle.record.proofs.Standing.{stored-kind}
 use Rattle.act.specs.Acting.{session-does, record-does, InSessionMay, OnRecordMay, stored-at}
 

@@ -12,11 +12,11 @@ use Rattle.rules.specs.Expression.{Expression, is-state, expression-allowed}
 use Rattle.rules.specs.Object.{Object, object-allowed, with-content}
 use Rattle.rules.specs.Layout.{head-size, record-size, record-bytes, read-record}
 use Rattle.rules.specs.Operation.{put-at}
-use Rattle.rules.proofs.Facts.{allowed, allowed-by}
-use Rattle.rules.proofs.Fitting.{content-fits}
-use Rattle.rules.proofs.Tests.{same-refl}
-use Rattle.rules.proofs.Inverse.{record-length, record-read}
-use Rattle.rules.proofs.Puts.{put-used}
+use Rattle.laws.proofs.Facts.{allowed, allowed-by}
+use Rattle.laws.proofs.Fitting.{content-fits}
+use Rattle.laws.proofs.Tests.{same-refl}
+use Rattle.laws.proofs.Inverse.{record-length, record-read}
+use Rattle.laws.proofs.Puts.{put-used}
 use Rattle.primitives.specs.Bytes.{over}
 use Rattle.primitives.proofs.Over.{over-length}
 use Rattle.record.specs.Places.{object-at, stands-at, Stored, with-record}

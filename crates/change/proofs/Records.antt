@@ -13,10 +13,10 @@ use Rattle.rules.specs.Expression.{Expression, expression, read-expression, exp
 use Rattle.rules.specs.Object.{Object, used, object-allowed, expression-in, with-content}
 use Rattle.rules.specs.Layout.{head-size, slot-at, slot, record-bytes, record-bytes-with, slot-at-with}
 use Rattle.rules.specs.Operation.{put-at}
-use Rattle.rules.proofs.Facts.{Allowed, allowed}
-use Rattle.rules.proofs.Tests.{and-left, and-right, same-eq}
-use Rattle.rules.proofs.Inverse.{slot-length}
-use Rattle.rules.proofs.Puts.{put-used}
+use Rattle.laws.proofs.Facts.{Allowed, allowed}
+use Rattle.laws.proofs.Tests.{and-left, and-right, same-eq}
+use Rattle.laws.proofs.Inverse.{slot-length}
+use Rattle.laws.proofs.Puts.{put-used}
 use Rattle.primitives.specs.Bytes.{over}
 use Rattle.primitives.proofs.Over.{over-part}
 use Rattle.record.specs.Records.{fixed}

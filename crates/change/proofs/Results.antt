@@ -11,9 +11,9 @@ use Rattle.rules.specs.Expression.{expression, read-expression}
 use Rattle.rules.specs.Object.{Object, used, object-allowed, with-content}
 use Rattle.rules.specs.Layout.{slot-size, head-size, record-size, slot-at, slot-of, slot, record-bytes, slot-of-with}
 use Rattle.rules.specs.Operation.{put-at}
-use Rattle.rules.proofs.Facts.{allowed}
-use Rattle.rules.proofs.Expressions.{expression-length}
-use Rattle.rules.proofs.Inverse.{record-length, slot-length}
+use Rattle.laws.proofs.Facts.{allowed}
+use Rattle.laws.proofs.Expressions.{expression-length}
+use Rattle.laws.proofs.Inverse.{record-length, slot-length}
 use Rattle.primitives.specs.Bytes.{over}
 use Rattle.primitives.proofs.Over.{over-length}
 use Rattle.record.specs.Places.{object-at, Stored, with-record}

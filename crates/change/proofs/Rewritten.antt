@@ -5,7 +5,7 @@ use mathlib.Core.List.{List, []}
 use mathlib.Core.Path.{_≡_, refl, sym, ap, _∙_}
 use native.Mathlib.Omega.{arith}
 use lib.ListN.{length}
-use Rattle.rules.proofs.Facts.{allowed}
+use Rattle.laws.proofs.Facts.{allowed}
 use Rattle.rules.specs.Basic.{is-some}
 use Rattle.rules.specs.declared.Slot.{Slot}
 use Rattle.rules.specs.Expression.{is-state, expression, read-expression}

@@ -7,7 +7,7 @@ use native.Mathlib.Omega.{arith}
 use native.Mathlib.Nat.{not-suc-le-zero, le-of-suc-le-suc}
 use Rattle.rules.specs.Basic.{zeros}
 use Rattle.rules.specs.Operation.{put-at}
-use Rattle.rules.proofs.Puts.{put-used}
+use Rattle.laws.proofs.Puts.{put-used}
 use Rattle.primitives.specs.Bytes.{over}
 
 take-zeros : (k j : ℕ) → k ≤ j → take k (zeros j) ≡ zeros k

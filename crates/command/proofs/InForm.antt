@@ -18,9 +18,9 @@ use Rattle.rules.specs.declared.Sizes.{Sizes}
 use Rattle.rules.specs.Command.{row, line-of, in-length, in-data, is-unknown}
 use Rattle.rules.specs.Expression.{is-state}
 use Rattle.rules.specs.Refusals.{early, unsound, ill-sized, unknown-param}
-use Rattle.rules.proofs.Tests.{or-parts}
-use Rattle.rules.proofs.Verdicts.{early-passed}
-use Rattle.rules.proofs.Rows.{on-object, in-full}
+use Rattle.laws.proofs.Tests.{or-parts}
+use Rattle.laws.proofs.Verdicts.{early-passed}
+use Rattle.laws.proofs.Rows.{on-object, in-full}
 use Rattle.command.specs.Table.{action-sizes, row-sizes, InFull}
 use Rattle.command.specs.InForm.{InForm}
 use Rattle.command.proofs.Table.{sizes-alike}

@@ -19,7 +19,7 @@ use Rattle.rules.specs.Command.{cmd, row, command-table, known-cmd, is-unknown,
 use Rattle.rules.specs.Hex.{hex, ascii, digits, pairs}
 use Rattle.rules.specs.Expression.{is-state}
 use Rattle.rules.specs.Refusals.{unsound, ill-sized, unknown-cmd, unusable, unknown-param, wrong-length, wrong-content}
-use Rattle.rules.proofs.Tests.{or-parts}
+use Rattle.laws.proofs.Tests.{or-parts}
 use Rattle.command.specs.Table.{row-sizes}
 use Rattle.command.proofs.Table.{takes, sizes-alike, takes-by}
 use Rattle.command.proofs.Tests.{fails, goes-on}

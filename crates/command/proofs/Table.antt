@@ -10,7 +10,7 @@ use Rattle.rules.specs.declared.Row.the-variants.{OnObject, OpenApplication, Cl
 use Rattle.rules.specs.declared.Sizes.{Sizes}
 use Rattle.rules.specs.Basic.{if_then_else_, among, same}
 use Rattle.rules.specs.Command.{Line, anything, identifier, table-line, command-table, known-cmd, no-line, line-in, line-of, cmd, param, row}
-use Rattle.rules.proofs.Rows.{every-line}
+use Rattle.laws.proofs.Rows.{every-line}
 use Rattle.command.specs.Table.{row-in, action-sizes, row-sizes}
 
 pub rows-alike : (ls : List Line) (c p : ℕ) → row-in ls c p ≡ line-in ls c p .row

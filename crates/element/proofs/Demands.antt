@@ -14,10 +14,10 @@ use Rattle.rules.specs.Command.{row, object-number}
 use Rattle.rules.specs.Object.{Object}
 use Rattle.rules.specs.Layout.{find}
 use Rattle.rules.specs.Step.{After, flushed}
-use Rattle.rules.specs.Demand.{is-done, is-refused, SomeRefusal, Answered, Ready, writes, WritesExactly, ReadsExactly, MayReadByte, bytes-shown, after-byte, Shown}
-use Rattle.rules.proofs.Demand1.{every-command-answered, no-room-changes-nothing, refusal-changes-last-error-only}
-use Rattle.rules.proofs.Demand2.{write-exactly-when, read-exactly-when}
-use Rattle.rules.proofs.Shown.{read-only-when, byte-read-when}
+use Rattle.demands.specs.Demand.{is-done, is-refused, SomeRefusal, Answered, Ready, writes, WritesExactly, ReadsExactly, MayReadByte, bytes-shown, after-byte, Shown}
+use Rattle.demands.proofs.Demand1.{every-command-answered, no-room-changes-nothing, refusal-changes-last-error-only}
+use Rattle.demands.proofs.Demand2.{write-exactly-when, read-exactly-when}
+use Rattle.demands.proofs.Shown.{read-only-when, byte-read-when}
 use Rattle.element.specs.declared.Answer.{Answer}
 use Rattle.element.specs.Executed.{executed, Executes}
 

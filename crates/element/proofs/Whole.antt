@@ -30,13 +30,13 @@ use Rattle.rules.specs.Access.{Seen, seen, seen-in, named, granted}
 use Rattle.rules.specs.Operation.{operation, setting-session}
 use Rattle.rules.specs.Refusals.{early, Ruling, ruling-on, ruling-of, ruling, late, verdict}
 use Rattle.rules.specs.Step.{raised, declined, replacing, performed, answered, judged, flushed, unanswered, step}
-use Rattle.rules.proofs.Tests.{some-else}
-use Rattle.rules.proofs.Facts.{allowed}
-use Rattle.rules.proofs.Inverse.{pack-unpack}
-use Rattle.rules.proofs.Verdicts.{passed, fitting-passed, fitting-accepts, LatePassed, late-passed}
-use Rattle.rules.proofs.Fitting.{operation-fitting, operation-outside}
-use Rattle.rules.proofs.Views.{Alike, operation-alike, session-left}
-use Rattle.rules.proofs.Demand2.{shown-length}
+use Rattle.laws.proofs.Tests.{some-else}
+use Rattle.laws.proofs.Facts.{allowed}
+use Rattle.laws.proofs.Inverse.{pack-unpack}
+use Rattle.laws.proofs.Verdicts.{passed, fitting-passed, fitting-accepts, LatePassed, late-passed}
+use Rattle.laws.proofs.Fitting.{operation-fitting, operation-outside}
+use Rattle.laws.proofs.Views.{Alike, operation-alike, session-left}
+use Rattle.laws.proofs.Puts.{shown-length}
 use Rattle.record.specs.Places.{object-at, Stored}
 use Rattle.record.proofs.Standing.{standing}
 use Rattle.store.proofs.Placing.{recorded-there}

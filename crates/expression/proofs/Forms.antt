@@ -12,8 +12,8 @@ use Rattle.rules.specs.Expression.{slot-size, Condition, Group, just, _and_, Gr
 use Rattle.rules.specs.Expression.{condition-bytes, group-bytes, groups-bytes, expression-bytes, in-first, expression}
 use Rattle.rules.specs.Expression.{condition-allowed, group-allowed, groups-allowed, expression-allowed}
 use Rattle.rules.specs.Expression.{conditions, groups, most-conditions, most-groups}
-use Rattle.rules.proofs.Tests.{and-left, and-right, and-both, at-place}
-use Rattle.rules.proofs.Expressions.{groups-length, expression-length, expression-back, expression-read}
+use Rattle.laws.proofs.Tests.{and-left, and-right, and-both, at-place}
+use Rattle.laws.proofs.Expressions.{groups-length, expression-length, expression-back, expression-read}
 use Rattle.expression.specs.Conditions.{condition-at, groups-after}
 use Rattle.expression.proofs.Tests.{same-test, some-of, some-is}
 use Rattle.expression.proofs.Conditions.{four, three}

@@ -28,7 +28,7 @@ use Rattle.rules.specs.Chain.{_refused_or_, _and-then_}
 use Rattle.rules.specs.Access.{Seen, holds, asked, granted}
 use Rattle.rules.specs.Operation.{value-allowed, writing, operation}
 use Rattle.rules.specs.Refusals.{ruling-on, fitting, late}
-use Rattle.rules.proofs.Tests.{or-parts}
+use Rattle.laws.proofs.Tests.{or-parts}
 use Rattle.record.specs.Places.{object-at, Stored}
 use Rattle.record.proofs.Standing.{stored-kind}
 use Rattle.judge.specs.declared.Target.{Target}

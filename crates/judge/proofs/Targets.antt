@@ -16,8 +16,8 @@ use Rattle.rules.specs.Object.{in-session, of-session, is, kind-number}
 use Rattle.rules.specs.Layout.{unpack, find, found}
 use Rattle.rules.specs.Session.{session-object, session-objects}
 use Rattle.rules.specs.Access.{Seen, seen, seen-in, named}
-use Rattle.rules.proofs.Tests.{some-else}
-use Rattle.rules.proofs.Named.{named-in-store}
+use Rattle.laws.proofs.Tests.{some-else}
+use Rattle.laws.proofs.Named.{named-in-store}
 use Rattle.record.specs.Places.{Stored}
 use Rattle.store.proofs.Placing.{nowhere, finds-it, stored-there}
 use Rattle.judge.specs.declared.Target.the-variants.{InSession, InStore, Nothing}

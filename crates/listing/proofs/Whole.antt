@@ -6,7 +6,7 @@ use native.Mathlib.Omega.{arith}
 use lib.ListN.{length, take, drop}
 use lib.Seq.{take-all, take-at}
 use Rattle.rules.specs.Program.{printed}
-use Rattle.rules.proofs.Printed.{printed-fits}
+use Rattle.demands.proofs.Printed.{printed-fits}
 use Rattle.listing.specs.Text.{in-front, fitting}
 
 -- what `print_all` answers and leaves in such an output

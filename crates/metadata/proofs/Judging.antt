@@ -12,8 +12,8 @@ use lib.Seq.{take-append-seam, drop-append-seam, drop-drop, getD-drop}
 use Rattle.rules.specs.Basic.{if_then_else_, all, among, rising, rising-from, is-some}
 use Rattle.rules.specs.Expression.{expression, may-become}
 use Rattle.rules.specs.Metadata.{Field, field, fields-bytes, led-by-20, read-fields, sent-fields, field-allowed, fields-allowed, metadata-allowed}
-use Rattle.rules.proofs.Tests.{and-left, and-right, and-both, at-place, same-refl, same-eq}
-use Rattle.rules.proofs.Metadata.{fields-read}
+use Rattle.laws.proofs.Tests.{and-left, and-right, and-both, at-place, same-refl, same-eq}
+use Rattle.laws.proofs.Fields.{fields-read}
 use Rattle.expression.proofs.Tests.{same-test}
 use Rattle.metadata.specs.declared.Next.{Next}
 use Rattle.metadata.specs.declared.Next.the-variants.{End, Broken}

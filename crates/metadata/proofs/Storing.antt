@@ -18,8 +18,8 @@ use Rattle.rules.specs.Expression.{expression, read-expression, is-state, may-b
 use Rattle.rules.specs.Object.{Object}
 use Rattle.rules.specs.Metadata.{Field, field, fields-bytes, led-by-20, sent-fields, field-allowed, fields-allowed, metadata-allowed}
 use Rattle.rules.specs.Metadata.{value-of, sent-state, sent-expression, with-fields}
-use Rattle.rules.proofs.Tests.{and-left, and-right, at-place}
-use Rattle.rules.proofs.Expressions.{expression-back}
+use Rattle.laws.proofs.Tests.{and-left, and-right, at-place}
+use Rattle.laws.proofs.Expressions.{expression-back}
 use Rattle.record.specs.Places.{object-at, Stored, with-record}
 use Rattle.record.specs.Records.{part}
 use Rattle.change.specs.Change.{with-lcso, with-expressions, with-expression}

@@ -11,7 +11,7 @@ use lib.Dec.{eqb}
 use lib.ListN.{length, getD, drop, length-replicate}
 use lib.Seq.{drop-cons, drop-length}
 use Rattle.rules.specs.Basic.{same, zeros}
-use Rattle.rules.proofs.Tests.{and-assoc, same-refl, same-eq}
+use Rattle.laws.proofs.Tests.{and-assoc, same-refl, same-eq}
 use Rattle.primitives.specs.Bytes.{all-zero}
 
 -- an or is zero where both are

@@ -12,7 +12,7 @@ use Rattle.rules.specs.Basic.{is-some}
 use Rattle.rules.specs.Expression.{expression, expression-bytes}
 use Rattle.rules.specs.Object.{used, expression-in}
 use Rattle.rules.specs.Layout.{head-size, slot-at}
-use Rattle.rules.proofs.Expressions.{expression-back}
+use Rattle.laws.proofs.Expressions.{expression-back}
 use Rattle.expression.proofs.Tests.{some-is}
 use Rattle.record.specs.Places.{object-at, Stored}
 use Rattle.record.proofs.Standing.{Slotted, standing, slot-here, data-here, slot-inside, slot-small, slot-value}

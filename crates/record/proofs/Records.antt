@@ -19,9 +19,9 @@ use Rattle.rules.specs.Basic.{all, same, zeros, little-endian-at}
 use Rattle.rules.specs.Expression.{Expression, expression-allowed, is-state}
 use Rattle.rules.specs.Object.{Object, used, kind-number, read-kind, data-allowed, in-session, object-allowed, expression-in}
 use Rattle.rules.specs.Layout.{slot-size, slots-at, head-size, slot-at, record-size, slot, record-bytes, read-slot, read-record, read-record-with, record-bytes-with, slot-at-with}
-use Rattle.rules.proofs.Facts.{storable, allowed, allowed-by}
-use Rattle.rules.proofs.Tests.{and-left, and-right, and-both, at-place, same-refl, same-eq}
-use Rattle.rules.proofs.Inverse.{slot-length, slot-read, record-length, record-read}
+use Rattle.laws.proofs.Facts.{storable, allowed, allowed-by}
+use Rattle.laws.proofs.Tests.{and-left, and-right, and-both, at-place, same-refl, same-eq}
+use Rattle.laws.proofs.Inverse.{slot-length, slot-read, record-length, record-read}
 use Rattle.primitives.specs.Bytes.{all-zero}
 use Rattle.primitives.proofs.Zeros.{zeros-are, are-zeros}
 use Rattle.expression.proofs.Tests.{same-test}

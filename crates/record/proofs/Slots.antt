@@ -13,8 +13,8 @@ use lib.Seq.{take-at, drop-at, length-take-le}
 use Rattle.rules.specs.Basic.{same, zeros, is-some}
 use Rattle.rules.specs.Expression.{Expression, expression, read-expression, expression-bytes, expression-allowed, condition-allowed}
 use Rattle.rules.specs.Layout.{slot-size, slot-of, slot, read-slot, slot-of-with}
-use Rattle.rules.proofs.Tests.{and-left, and-right, and-both, same-refl, same-eq}
-use Rattle.rules.proofs.Expressions.{expression-length, expression-back, expression-read, read-bytes}
+use Rattle.laws.proofs.Tests.{and-left, and-right, and-both, same-refl, same-eq}
+use Rattle.laws.proofs.Expressions.{expression-length, expression-back, expression-read, read-bytes}
 use Rattle.primitives.specs.Bytes.{all-zero, over}
 use Rattle.primitives.proofs.Zeros.{zeros-are, are-zeros}
 use Rattle.primitives.proofs.Over.{over-over}

@@ -13,10 +13,10 @@ use Rattle.rules.specs.Basic.{same, zeros, little-endian-at}
 use Rattle.rules.specs.Expression.{Expression, expression-bytes, expression-allowed}
 use Rattle.rules.specs.Object.{Object, used, kind-number, of-session, object-allowed, expression-in}
 use Rattle.rules.specs.Layout.{slot-size, slots-at, head-size, slot-at, record-size, slot, record-bytes, read-record, record-bytes-with, slot-at-with, slot-of-with}
-use Rattle.rules.proofs.Facts.{storable, allowed}
-use Rattle.rules.proofs.Tests.{and-left, and-right, same-eq, same-refl}
-use Rattle.rules.proofs.Expressions.{expression-length}
-use Rattle.rules.proofs.Inverse.{slot-length, record-length, record-read, two-bytes, past-one, past-two, past-three}
+use Rattle.laws.proofs.Facts.{storable, allowed}
+use Rattle.laws.proofs.Tests.{and-left, and-right, same-eq, same-refl}
+use Rattle.laws.proofs.Expressions.{expression-length}
+use Rattle.laws.proofs.Inverse.{slot-length, record-length, record-read, two-bytes, past-one, past-two, past-three}
 use Rattle.record.specs.Places.{object-at, stands-at, Stored}
 
 low-drop : (p k : ℕ) (b : List ℕ) → little-endian-at k (drop p b) ≡ little-endian-at (p + k) b

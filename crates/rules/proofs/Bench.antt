@@ -5,7 +5,7 @@ use Rattle.mixing.specs.Runs.{answers, end}
 use mathlib.Core.Path.{_≡_, refl}
 use Rattle.rules.specs.Basic.{all, among, same, rising-from, rising, little-endian-at}
 use Rattle.rules.specs.Hex.{ascii, digits, pairs, hex}
-use Rattle.rules.specs.Command.{asks-flush, cmd, param, in-length, in-data, size-right, identifier, anything, table-line, command-table, known-cmd, no-line, line-in, line-of, row, object-number, offset, asked-length, sent-data, sent-metadata}
+use Rattle.rules.specs.Command.{asks-flush, cmd, param, in-length, in-data, size-right, identifier, anything, table-line, command-table, known-cmd, no-line, line-in, line-of, row, object-number, offset, asked-length, sent-data, sent-metadata, object-of}
 use Rattle.rules.specs.Response.{done-response, refused-response, put-in-front}
 use Rattle.rules.specs.Expression.{is-state, may-become, condition-bytes, group-bytes, groups-bytes, expression-bytes, condition-allowed, group-allowed, groups-allowed, group-size, conditions, groups, expression-allowed-with, in-first, read-groups, read-expression, expression-with}
 use Rattle.rules.specs.Object.{kind-number, read-kind, is, of-session, data-allowed, in-session, object-allowed-with, all-allowed-with, with-content}
@@ -19,8 +19,7 @@ use Rattle.rules.specs.Operation.{put-at, value-allowed, writing, operat
 use Rattle.rules.specs.Refusals.{unsound, ill-sized, unknown-cmd, unusable, unknown-param, wrong-length, wrong-content, early, ruling-on, ruling-of, ruling, fitting, late, verdict}
 use Rattle.rules.specs.Step.{raised, declined, replacing, performed, answered, judged, flushed, unanswered, step}
 use Rattle.rules.specs.Program.{digit, upper-hex, line, response-in, answer-line, lines, printed}
-use Rattle.rules.specs.Run.{reply, left, run}
-use Rattle.rules.specs.Demand.{reads-or-writes, object-of}
+use Rattle.rules.specs.Run.{reply, left, run, reads-or-writes}
 use Rattle.rules.specs.Cases.{same-session, _gives_, _refused_leaving_, unanswered-in, in-room, room-of, done-empty, responds, as-expected, talk-right, store-after, turn, told, same-replies, same-number, Case, run-right, right, all-right}
 use Rattle.rules.specs.Stores.{padded, by-hand, first-record, second-record, third-record, three, large, smallest, largest, many, factory-140, factory-1500, factory-by-hand, first-metadata, second-metadata}
 use Rattle.rules.specs.Bench.{open-command, factory-metadata, cases, more-cases, slip-cases, run-cases}

@@ -13,9 +13,9 @@ use Rattle.rules.specs.Access.{seen, holds}
 use Rattle.rules.specs.Layout.{unpack}
 use Rattle.rules.specs.Factory.{factory-store, fresh-session, factory-outcome, factory-made}
 use Rattle.rules.specs.Step.{After, step}
-use Rattle.rules.specs.Run.{Turn, Reply, Ran, run}
+use Rattle.rules.specs.Run.{Turn, Reply, Ran, run, reads-or-writes}
 use Rattle.rules.specs.Program.{printed}
-use Rattle.rules.specs.Demand.{reads-or-writes, object-of}
+use Rattle.rules.specs.Command.{object-of}
 
 -- sessions by hand -------------------------------------------------------------------------------------------------------
 

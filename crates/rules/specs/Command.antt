@@ -2,8 +2,9 @@
 use Prim.Native.Nat.{ℕ, _%_}
 use mathlib.Core.Bool.{Bool, true, false, _&&_, _||_}
 use mathlib.Core.List.{List, [], _∷_, _++_}
+use mathlib.Core.Option.{Option, none, some}
 use lib.Dec.{eqb, leb}
-use lib.ListN.{getD, drop}
+use lib.ListN.{length, getD, drop}
 use Rattle.rules.specs.declared.Action.the-variants.{GetData, GetMetadata, Write, EraseAndWrite, SetMetadata}
 use Rattle.rules.specs.declared.Sizes.{Sizes}
 use Rattle.rules.specs.declared.Row.{Row}
@@ -110,9 +111,12 @@ is-unknown CloseApplication = false
 
 -- the parts of InData --------------------------------------------------------------------------------------------------
 
--- a get or set, whatever its Param, names an object in its fifth and sixth bytes
 unfoldable pub object-number : List ℕ → ℕ
 object-number c = big-endian-at 4 c
+
+-- a get or set, whatever its Param, names the object in its fifth and sixth bytes; a shorter one names none
+unfoldable pub object-of : List ℕ → Option ℕ
+object-of c = if leb 6 (length c) then some (object-number c) else none
 
 -- get data and write
 unfoldable pub offset : List ℕ → ℕ

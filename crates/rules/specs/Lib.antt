@@ -22,8 +22,6 @@ pub mod Step
 -- Lists of commands
 pub mod Run
 pub mod Program
--- The demands, in their own words
-pub mod Demand
 -- Bench sheet
 pub mod Cases
 pub mod Stores

@@ -11,7 +11,7 @@ use Rattle.mixing.specs.Runs.{answers, end}
 use Rattle.rules.specs.declared.Session.{Session}
 use Rattle.rules.specs.Step.{After, step}
 use Rattle.rules.specs.Run.{Reply, Kept, reply, left, run}
-use Rattle.rules.proofs.Keeps.{step-room-length}
+use Rattle.laws.proofs.Keeps.{step-room-length}
 use Rattle.primitives.specs.Bytes.{over}
 use Rattle.element.specs.declared.Answer.{Answer}
 use Rattle.element.specs.Executed.{executed, Executes}

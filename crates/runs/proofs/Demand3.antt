@@ -8,9 +8,9 @@ use lib.Seq.{take-at, drop-at, length-take-le}
 use Rattle.mixing.specs.Runs.{answers, end, Mix, Mixed}
 use Rattle.rules.specs.Step.{After, step}
 use Rattle.rules.specs.Run.{Turn, Reply, Kept, Ran, reply, left, run}
-use Rattle.rules.specs.Demand.{TwoLists}
-use Rattle.rules.proofs.Keeps.{step-room-length}
-use Rattle.rules.proofs.Demand3.{lists-mix}
+use Rattle.demands.specs.Demand.{TwoLists}
+use Rattle.laws.proofs.Keeps.{step-room-length}
+use Rattle.demands.proofs.Demand3.{lists-mix}
 use Rattle.runs.specs.Lists.{Lent, Returned, Given, width, cut, behind, turns, begun, by-rules}
 use Rattle.runs.specs.Demand.{SideBySide, LibraryRun, IsRun, read, ran, ThreeRuns, Calls, over, call}
 

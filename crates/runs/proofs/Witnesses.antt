@@ -12,8 +12,8 @@ use Rattle.mixing.specs.Runs.{All}
 use Rattle.rules.specs.Basic.{all}
 use Rattle.rules.specs.Hex.{ascii, digits, pairs, hex}
 use Rattle.rules.specs.Run.{Turn}
-use Rattle.rules.proofs.Tests.{and-left, and-right}
-use Rattle.rules.proofs.Witnesses.{room, P3, P4, last-byte, last-byte-back, on-F1D0, on-F1E0, in-turn, taken-in-turn, two-lists, begun}
+use Rattle.laws.proofs.Tests.{and-left, and-right}
+use Rattle.demands.proofs.Witnesses.{room, P3, P4, last-byte, last-byte-back, on-F1D0, on-F1E0, in-turn, taken-in-turn, two-lists, begun}
 use Rattle.runs.specs.Lists.{Given, by-rules, laid-out, Fitting, InTypes}
 use Rattle.runs.specs.Demand.{SideBySide, LibraryRun, library-run, IsRun, ran}
 use Rattle.runs.proofs.LaidOut.{laid-out-given, every-list-laid-out}

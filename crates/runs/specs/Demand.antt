@@ -8,7 +8,7 @@ use denote.Triple.Both.{Both}
 use Rattle.mixing.specs.Runs.{Mix, of-first, of-second}
 use Rattle.rules.specs.declared.Session.{Session}
 use Rattle.rules.specs.Run.{Turn, Reply, Kept, Ran, run}
-use Rattle.rules.specs.Demand.{TwoLists}
+use Rattle.demands.specs.Demand.{TwoLists}
 use Rattle.element.specs.declared.Answer.{Answer}
 use Rattle.element.specs.Executed.{Executes}
 use Rattle.runs.specs.Lists.{Lent, Returned, Given, width, by-rules, lent, returned}

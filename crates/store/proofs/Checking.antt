@@ -13,10 +13,10 @@ use lib.Seq.{drop-drop}
 use Rattle.rules.specs.Basic.{is-some, little-endian-at, rising-from, rising}
 use Rattle.rules.specs.Object.{Object, object-allowed, all-allowed, all-allowed-with}
 use Rattle.rules.specs.Layout.{head-size, size, objects-allowed, record-bytes, pack, unpack, read-record, pack-with}
-use Rattle.rules.proofs.Tests.{and-left, and-right, and-both}
-use Rattle.rules.proofs.Facts.{allowed, numbers, all-allowed-facts, all-allowed-by}
-use Rattle.rules.proofs.Inverse.{unpack-pack, pack-unpack}
-use Rattle.rules.proofs.Places.{pack-length}
+use Rattle.laws.proofs.Tests.{and-left, and-right, and-both}
+use Rattle.laws.proofs.Facts.{allowed, numbers, all-allowed-facts, all-allowed-by}
+use Rattle.laws.proofs.Inverse.{unpack-pack, pack-unpack}
+use Rattle.laws.proofs.Places.{pack-length}
 use Rattle.expression.proofs.Tests.{same-test, some-of, some-is}
 use Rattle.record.specs.Places.{object-at, Stored}
 use Rattle.record.specs.Records.{part, is-record}

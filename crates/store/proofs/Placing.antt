@@ -15,10 +15,10 @@ use Rattle.rules.specs.Basic.{if_then_else_, rising}
 use Rattle.rules.specs.Object.{Object, object-allowed, all-allowed, all-allowed-with}
 use Rattle.rules.specs.Layout.{head-size, record-size, size, objects-allowed, record-bytes, pack, unpack, pack-with, size-with}
 use Rattle.rules.specs.Layout.{find, replaced, found-behind, found}
-use Rattle.rules.proofs.Facts.{allowed, numbers, all-allowed-facts}
-use Rattle.rules.proofs.Tests.{and-left, and-right, and-both}
-use Rattle.rules.proofs.Inverse.{record-length, pack-unpack}
-use Rattle.rules.proofs.Places.{pack-append, pack-length, replaced-bytes}
+use Rattle.laws.proofs.Facts.{allowed, numbers, all-allowed-facts}
+use Rattle.laws.proofs.Tests.{and-left, and-right, and-both}
+use Rattle.laws.proofs.Inverse.{record-length, pack-unpack}
+use Rattle.laws.proofs.Places.{pack-append, pack-length, replaced-bytes}
 use Rattle.primitives.specs.Bytes.{over}
 use Rattle.primitives.proofs.Over.{over-part}
 use Rattle.record.specs.Places.{object-at, Stored, with-record}

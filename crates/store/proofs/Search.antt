@@ -10,9 +10,9 @@ use lib.ListN.{length, drop, length-append, length-drop, drop-of-length-le}
 use Rattle.rules.specs.Basic.{if_then_else_, is-some, or-else}
 use Rattle.rules.specs.Object.{Object, object-allowed, all-allowed, all-allowed-with}
 use Rattle.rules.specs.Layout.{head-size, record-size, record-bytes, pack, unpack, found-behind, found, pack-with}
-use Rattle.rules.proofs.Facts.{allowed, all-allowed-facts}
-use Rattle.rules.proofs.Tests.{and-left, and-right, some-else}
-use Rattle.rules.proofs.Inverse.{record-length, pack-unpack}
+use Rattle.laws.proofs.Facts.{allowed, all-allowed-facts}
+use Rattle.laws.proofs.Tests.{and-left, and-right, some-else}
+use Rattle.laws.proofs.Inverse.{record-length, pack-unpack}
 use Rattle.rules.specs.declared.Found.the-variants.{At, Nothing}
 use Rattle.record.specs.Places.{object-at, Stored}
 use Rattle.record.proofs.Standing.{rest-here, object-here, stands-here, stored-facts}

@@ -1,0 +1,191 @@
+-- The demands' own words about one command and about two lists.
+use Prim.Native.Nat.{ℕ, _+_, _/_, _%_, _≤_, _<_}
+use mathlib.Core.Bool.{Bool, true, false, not, _&&_}
+use mathlib.Core.List.{List, [], _∷_}
+use mathlib.Core.Logic.{_⊎_}
+use mathlib.Core.Option.{Option, none, some}
+use mathlib.Core.Path.{_≡_}
+use lib.Dec.{eqb, leb}
+use lib.ListN.{length, getD, take, drop}
+use Rattle.mixing.specs.Runs.{All}
+use Rattle.rules.specs.declared.Session.{Session}
+use Rattle.rules.specs.declared.Refusal.{Refusal}
+use Rattle.rules.specs.declared.Action.{Action}
+use Rattle.rules.specs.declared.Action.the-variants.{GetData, GetMetadata, Write, EraseAndWrite, SetMetadata}
+use Rattle.rules.specs.Basic.{if_then_else_, among}
+use Rattle.rules.specs.Command.{asks-flush, object-number, offset, asked-length, sent-data, sent-metadata, object-of}
+use Rattle.rules.specs.Response.{code, done-response, refused-response, put-in-front}
+use Rattle.rules.specs.Expression.{is-state}
+use Rattle.rules.specs.Object.{Object, used, in-session, with-content}
+use Rattle.rules.specs.Layout.{unpack, pack, find, replaced}
+use Rattle.rules.specs.Session.{with-error}
+use Rattle.rules.specs.Metadata.{Field, fields-bytes, object-fields, led-by-20, metadata-allowed, sent-fields, with-fields}
+use Rattle.rules.specs.Access.{Seen, seen, holds}
+use Rattle.rules.specs.Operation.{put-at}
+use Rattle.rules.specs.Refusals.{ill-sized, wrong-length}
+use Rattle.rules.specs.Step.{After, raised, flushed}
+use Rattle.rules.specs.Run.{Turn, reads-or-writes}
+
+-- a response stands, and its status byte is 00 or FF
+unfoldable pub is-done : After → Bool
+is-done a = eqb (a .outcome) 0 && eqb (getD (a .room) 0 0) 0x00
+
+unfoldable pub is-refused : After → Bool
+is-refused a = eqb (a .outcome) 0 && eqb (getD (a .room) 0 0) 0xFF
+
+-- demand 1 -------------------------------------------------------------------------------------------------------------
+
+-- the list of numbers
+unfoldable pub listed : ℕ → Bool
+listed n = among (0x01 ∷ 0x03 ∷ 0x04 ∷ 0x05 ∷ 0x06 ∷ 0x07 ∷ 0x08 ∷ 0x0A ∷ 0x0C ∷ 0x0D ∷ []) n
+
+-- a refusal: no stored object changes; the session keeps all but its last error, which, after any flush, rises to the refusal's
+-- number if that is higher; of the room only the response's four bytes change
+pub record RefusedWith (r : Refusal) (c room store : List ℕ) (s : Session) (a : After) : Type 0 where
+  pub number-listed : listed (code r) ≡ true
+  pub outcome : a .outcome ≡ 0
+  pub response : a .room ≡ put-in-front refused-response room
+  pub store-kept : a .store ≡ store
+  pub session-kept : a .session ≡ raised (code r) (flushed c s)
+
+-- a refusal with some number of the list
+pub record SomeRefusal (c room store : List ℕ) (s : Session) (a : After) : Type 0 where
+  pub refusal : Refusal
+  pub with : RefusedWith refusal c room store s a
+
+-- whatever the bytes are, one of three: no room for a status and nothing changes at all, refused, or done
+pub data Answered (c room store : List ℕ) (s : Session) (a : After) : Type 0 where
+  no-room : length room < 4 → a ≡ record { outcome = 1; room = room; store = store; session = s } → Answered c room store s a
+  refused : 4 ≤ length room → (r : Refusal) → RefusedWith r c room store s a → is-refused a ≡ true → Answered c room store s a
+  done : 4 ≤ length room → is-done a ≡ true → Answered c room store s a
+
+-- demand 2 -------------------------------------------------------------------------------------------------------------
+
+-- with room to answer, store and session sound and the application usable; os: the stored objects
+pub record Ready (room store : List ℕ) (s : Session) (os : List Object) : Type 0 where
+  pub room-to-answer : 4 ≤ length room
+  pub store-sound : unpack store ≡ some os
+  pub lcsg-sound : is-state (s .lcsg) ≡ true
+  pub lcsa-sound : is-state (s .lcsa) ≡ true
+  -- usable: LcsA is not 0F, and it is open
+  pub not-terminated : eqb (s .lcsa) 0x0F ≡ false
+  pub is-open : s .opened ≡ true
+
+-- the command is well formed: its own length and InLen, for its row
+unfoldable pub well-formed : List ℕ → Bool
+well-formed c = not (ill-sized c) && not (wrong-length c)
+
+-- a write to a stored object: data, erasing or not, and metadata
+unfoldable pub writes : Action → Bool
+writes Write = true
+writes EraseAndWrite = true
+writes SetMetadata = true
+writes GetData = false
+writes GetMetadata = false
+
+-- the content is allowed and fits
+unfoldable pub content-allowed : Action → List ℕ → Object → Bool
+content-allowed Write c o = leb (offset c + length (sent-data c)) (o .maximum)
+content-allowed EraseAndWrite c o = leb (offset c + length (sent-data c)) (o .maximum)
+content-allowed SetMetadata c o = metadata-allowed (o .lcso) (sent-metadata c)
+content-allowed GetData c o = true
+content-allowed GetMetadata c o = true
+
+-- the object after a write
+unfoldable pub changed : Action → List ℕ → Object → Object
+changed Write c o = with-content (put-at (offset c) (sent-data c) (o .content)) o
+changed EraseAndWrite c o = with-content (put-at (offset c) (sent-data c) []) o
+changed SetMetadata c o = with-fields (sent-fields (sent-metadata c)) o
+changed GetData c o = o
+changed GetMetadata c o = o
+
+-- when a write makes its change
+pub record MayWrite (a : Action) (c : List ℕ) (see : Seen) (o : Object) : Type 0 where
+  pub command-well-formed : well-formed c ≡ true
+  pub change-condition-holds : holds see (o .lcso) (o .change) ≡ true
+  pub content-allowed-and-fits : content-allowed a c o ≡ true
+
+-- a write makes its change exactly when it may: then it is done and the object, and it alone, is the changed one; else nothing is stored
+pub record WritesExactly (a : Action) (c room store : List ℕ) (s : Session) (os : List Object) (o : Object) (after : After) : Type 0 where
+  pub when : MayWrite a c (seen os s) o →
+      after ≡ record { outcome = 0; room = put-in-front (done-response []) room; store = pack (replaced (changed a c o) os); session = flushed c s }
+  pub objects-after : MayWrite a c (seen os s) o → unpack (after .store) ≡ some (replaced (changed a c o) os)
+  pub only-when : is-done after ≡ true → MayWrite a c (seen os s) o
+  pub else-kept : is-done after ≡ false → after .store ≡ store
+
+-- when a data read shows data
+pub record MayRead (c : List ℕ) (room : ℕ) (see : Seen) (o : Object) : Type 0 where
+  pub command-well-formed : well-formed c ≡ true
+  pub read-condition-holds : holds see (o .lcso) (o .read) ≡ true
+  pub within-used : offset c + asked-length c ≤ used o
+  pub answer-fits : 4 + asked-length c ≤ room
+
+-- what stands after a data read that shows, of these bytes, those asked for
+abbrev pub bytes-shown : (c content room store : List ℕ) → Session → After
+bytes-shown c content room store s =
+    record { outcome = 0; room = put-in-front (done-response (take (asked-length c) (drop (offset c) content))) room; store = store; session = s }
+
+-- a data read shows exactly the stored bytes asked for, and only when the read condition holds; it changes nothing stored
+pub record ReadsExactly (c room store : List ℕ) (s : Session) (os : List Object) (o : Object) (after : After) : Type 0 where
+  pub when : MayRead c (length room) (seen os s) o → after ≡ bytes-shown c (o .content) room store (flushed c s)
+  pub only-when : is-done after ≡ true → MayRead c (length room) (seen os s) o
+  pub store-kept : after .store ≡ store
+
+-- the byte of each object of the session: E0C0 the LcsG, F1C0 the LcsA, F1C2 the last error
+unfoldable pub session-byte : ℕ → Session → Option ℕ
+session-byte n s =
+    if eqb n 0xE0C0 then some (s .lcsg) else
+    if eqb n 0xF1C0 then some (s .lcsa) else
+    if eqb n 0xF1C2 then some (s .error) else
+    none
+
+-- when a data read of an object of the session is answered: its byte is readable at all times
+pub record MayReadByte (c : List ℕ) (room : ℕ) (s : Session) (byte : ℕ) : Type 0 where
+  pub command-well-formed : well-formed c ≡ true
+  pub in-session : session-byte (object-number c) s ≡ some byte
+  pub within-byte : offset c + asked-length c ≤ 1
+  pub answer-fits : 4 + asked-length c ≤ room
+
+-- the session after it: the last error is 0 where its byte was returned
+unfoldable pub after-byte : List ℕ → Session → Session
+after-byte c s = if eqb (object-number c) 0xF1C2 && leb 1 (asked-length c) then with-error 0 s else s
+
+-- what a data read that is done shows, with nothing assumed of store and session: they are sound, the application usable, the command
+-- well formed; and either the object is stored and its read condition holds, or it is one of the session's three
+pub data Shown (c room store : List ℕ) (s : Session) (after : After) : Type 0 where
+  of-object : (os : List Object) (o : Object) → Ready room store s os → find (object-number c) os ≡ some o → MayRead c (length room) (seen os s) o →
+      after ≡ bytes-shown c (o .content) room store (flushed c s) → Shown c room store s after
+  of-session : (os : List Object) (byte : ℕ) → Ready room store s os → MayReadByte c (length room) (flushed c s) byte →
+      after ≡ bytes-shown c (byte ∷ []) room store (after-byte c (flushed c s)) → Shown c room store s after
+
+-- the send-back case: an object's metadata read back, without C4 and C5, and the command that sends it in -------------------
+
+unfoldable pub without-sizes : List Field → List Field
+without-sizes [] = []
+without-sizes (f ∷ fs) = let rest = without-sizes fs in if among (0xC4 ∷ 0xC5 ∷ []) (f .tag) then rest else f ∷ rest
+
+unfoldable pub sent-back : Object → List ℕ
+sent-back o =
+    let m = led-by-20 (fields-bytes (without-sizes (object-fields o))) in
+    0x02 ∷ 0x01 ∷ (2 + length m) / 256 ∷ (2 + length m) % 256 ∷ o .number / 256 ∷ o .number % 256 ∷ m
+
+-- demand 3 -------------------------------------------------------------------------------------------------------------
+
+-- what the demand asks of each command
+pub record Plain (t : Turn) : Type 0 where
+  pub is-read-or-write : reads-or-writes (t .command) ≡ true
+  -- it names neither a life cycle object nor the error object
+  pub outside-session : (n : ℕ) → object-of (t .command) ≡ some n → in-session n ≡ false
+  pub no-flush : asks-flush (t .command) ≡ false
+
+-- some command of the list names the object number
+abbrev pub Names : List Turn → ℕ → Type 0
+Names [] n = ⊥
+Names (t ∷ ts) n = (object-of (t .command) ≡ some n) ⊎ Names ts n
+
+-- two lists as the demand takes them
+pub record TwoLists (xs ys : List Turn) : Type 0 where
+  pub first-plain : All Plain xs
+  pub second-plain : All Plain ys
+  -- no object number is named in both lists
+  pub no-common-object : (n : ℕ) → Names xs n → Names ys n → ⊥

@@ -1,0 +1,58 @@
+-- Bytes put at an offset, byte by byte: the bytes sent stand at the offset, all others stay, a gap reads as zero, and used becomes the
+-- larger of used and offset + length. How many bytes a read shows.
+use Prim.Native.Nat.{ℕ, zero, suc, _+_, _-_, _≤_, _<_, max}
+use mathlib.Core.List.{List, [], _∷_, _++_, append-assoc}
+use mathlib.Core.Path.{_≡_, refl, sym, ap, _∙_}
+use native.Mathlib.Omega.{arith}
+use lib.ListN.{length, getD, take, drop, length-append, length-take, length-drop, length-replicate, List·getD-append}
+use lib.Seq.{getD-append-add, getD-take, getD-drop}
+use Rattle.rules.specs.Basic.{zeros}
+use Rattle.rules.specs.Command.{offset, asked-length}
+use Rattle.rules.specs.Operation.{put-at}
+
+zeros-zero : (n i : ℕ) → getD (zeros n) i 0 ≡ 0
+zeros-zero zero i = refl
+zeros-zero (suc n) zero = refl
+zeros-zero (suc n) (suc i) = zeros-zero n i
+
+-- past its end a list reads as zero
+padded-zero : (b : List ℕ) (n i : ℕ) → getD (b ++ zeros n) i 0 ≡ getD b i 0
+padded-zero [] n i = zeros-zero n i
+padded-zero (x ∷ b) n zero = refl
+padded-zero (x ∷ b) n (suc i) = padded-zero b n i
+
+module _ (k : ℕ) (b old : List ℕ) where
+  pub put-used : length (put-at k b old) ≡ max (length old) (k + length b)
+  unfolding put-at
+  put-used = simp (length-append, length-take, length-drop, length-replicate) (omega arith)
+
+  front : List ℕ
+  front = take k (old ++ zeros (k - length old))
+
+  front-length : length front ≡ k
+  unfolding front
+  front-length = simp (length-take, length-append, length-replicate) (omega arith)
+
+  parts : put-at k b old ≡ front ++ (b ++ drop (k + length b) old)
+  unfolding put-at front
+  parts = append-assoc front b (drop (k + length b) old)
+
+  -- behind the front, the bytes and what was past them
+  behind : (i : ℕ) → getD (put-at k b old) (k + i) 0 ≡ getD (b ++ drop (k + length b) old) i 0
+  behind i = (λ j. getD (parts j) (sym front-length j + i) 0) ∙ getD-append-add front (b ++ drop (k + length b) old) i 0
+
+  pub put-there : (i : ℕ) → i < length b → getD (put-at k b old) (k + i) 0 ≡ getD b i 0
+  put-there i h = behind i ∙ List·getD-append b (drop (k + length b) old) 0 i h
+
+  pub put-before : (i : ℕ) → i < k → getD (put-at k b old) i 0 ≡ getD old i 0
+  unfolding front
+  put-before i h =
+      ap (λ x. getD x i 0) parts ∙ List·getD-append front (b ++ drop (k + length b) old) 0 i (omega (arith, front-length)) ∙
+      getD-take k (old ++ zeros (k - length old)) i 0 h ∙ padded-zero old (k - length old) i
+
+  pub put-after : (i : ℕ) → getD (put-at k b old) (k + (length b + i)) 0 ≡ getD old (k + length b + i) 0
+  put-after i = behind (length b + i) ∙ getD-append-add b (drop (k + length b) old) i 0 ∙ getD-drop (k + length b) old i 0
+
+-- as many bytes as asked for, where they are there
+pub shown-length : (c content : List ℕ) → offset c + asked-length c ≤ length content → length (take (asked-length c) (drop (offset c) content)) ≡ asked-length c
+shown-length c content h = simp (length-take, length-drop) (omega arith)

@@ -1,0 +1,61 @@
+-- What a computed test tells.
+use Prim.Native.Nat.{ℕ, zero, suc}
+use mathlib.Core.Bool.{Bool, true, false, _&&_, _||_, false≢true}
+use mathlib.Core.List.{List, [], _∷_}
+use mathlib.Core.Path.{_≡_, refl, sym}
+use mathlib.Core.Option.{Option, none, some}
+use native.Mathlib.Omega.{arith}
+use borrow.Author.Tests.{eqb-true, eq-eqb}
+use lib.Dec.{eqb}
+use lib.ListN.{getD}
+use Rattle.rules.specs.Basic.{if_then_else_, all, same, is-some, or-else}
+
+pub and-left : (a b : Bool) → a && b ≡ true → a ≡ true
+and-left true b h = refl
+and-left false b h = h
+
+pub and-right : (a b : Bool) → a && b ≡ true → b ≡ true
+and-right true b h = h
+and-right false b h = absurd (false≢true h)
+
+pub and-both : (a b : Bool) → a ≡ true → b ≡ true → a && b ≡ true
+and-both a b p q = rw (p, q)
+
+pub or-parts : (a b : Bool) → a || b ≡ false → (a ≡ false) × (b ≡ false)
+or-parts true b h = absurd (false≢true (sym h))
+or-parts false b h = (refl, h)
+
+pub and-assoc : (a b c : Bool) → a && b && c ≡ a && (b && c)
+and-assoc true b c = refl
+and-assoc false b c = refl
+
+-- what a choice of something or nothing gave
+pub chosen : {A : Type 0} (t : Bool) (x y : A) → (if t then some x else none) ≡ some y → (t ≡ true) × (x ≡ y)
+chosen true x y h = (refl, cc)
+chosen false x y h = let z : _≡_ {A = ℕ} 0 1 = cc in absurd (omega arith)
+
+pub some-else : {A : Type 0} (m : Option A) (d : A) → is-some m ≡ true → m ≡ some (or-else m d)
+some-else none d h = absurd (false≢true h)
+some-else (some a) d h = refl
+
+-- the test at place k of those that all hold
+pub at-place : (ts : List Bool) → all ts ≡ true → (k : ℕ) → getD ts k true ≡ true
+unfolding all
+at-place [] h k = refl
+at-place (t ∷ ts) h zero = and-left t (all ts) h
+at-place (t ∷ ts) h (suc k) = at-place ts (and-right t (all ts) h) k
+
+pub same-refl : (xs : List ℕ) → same xs xs ≡ true
+unfolding same
+same-refl [] = refl
+same-refl (x ∷ xs) = and-both (eqb x x) (same xs xs) (eq-eqb x x refl) (same-refl xs)
+
+pub same-eq : (xs ys : List ℕ) → same xs ys ≡ true → xs ≡ ys
+unfolding same
+same-eq [] [] h = refl
+same-eq [] (y ∷ ys) h = absurd (false≢true h)
+same-eq (x ∷ xs) [] h = absurd (false≢true h)
+same-eq (x ∷ xs) (y ∷ ys) h =
+    let p = eqb-true x y (and-left (eqb x y) (same xs ys) h) in
+    let q = same-eq xs ys (and-right (eqb x y) (same xs ys) h) in
+    cc

@@ -1,0 +1,80 @@
+-- What an action looks at and leaves: of the session it looks at the life cycles alone, and it changes the session only through the session's objects.
+use Prim.Native.Nat.{ℕ}
+use mathlib.Core.Bool.{Bool, false, not}
+use mathlib.Core.List.{List}
+use mathlib.Core.Option.{Option, none, some}
+use mathlib.Core.Path.{_≡_, refl}
+use lib.ListN.{length}
+use Rattle.rules.specs.declared.Session.{Session}
+use Rattle.rules.specs.declared.Action.{Action}
+use Rattle.rules.specs.declared.Action.the-variants.{GetData, GetMetadata, Write, EraseAndWrite, SetMetadata}
+use Rattle.rules.specs.declared.Refusal.the-variants.{AccessDenied}
+use Rattle.rules.specs.Object.{Object, in-session}
+use Rattle.rules.specs.Session.{with-error}
+use Rattle.rules.specs.Chain.{_refused_or_, _and-then_}
+use Rattle.rules.specs.Access.{Seen, asked, granted}
+use Rattle.rules.specs.Operation.{Operation, setting-session, operation}
+use Rattle.rules.specs.Refusals.{unsound, unusable, early, Ruling, ruling-on, fitting, late}
+use Rattle.laws.proofs.Named.{holds-alike, state-outside, not-error-object}
+
+-- two that see the same life cycles -----------------------------------------------------------------------------------------
+
+pub record SameStates (s x : Session) : Type 0 where
+  pub opened : s .opened ≡ x .opened
+  pub lcsg : s .lcsg ≡ x .lcsg
+  pub lcsa : s .lcsa ≡ x .lcsa
+
+pub same-states : (s : Session) → SameStates s s
+same-states s = search
+
+-- the last error is none of them
+pub error-aside : (n : ℕ) (s : Session) → SameStates (with-error n s) s
+unfolding with-error
+error-aside n s = search
+
+pub early-alike : (sound : Bool) (c : List ℕ) (s x : Session) → SameStates s x → early sound c s ≡ early sound c x
+unfolding early unsound unusable
+early-alike sound c s x v = rw (v .opened, v .lcsg, v .lcsa)
+
+-- operations, seen through all but the session that they leave
+pub record Alike (p q : Operation) : Type 0 where
+  pub verdict : p .verdict ≡ q .verdict
+  pub answer : p .answer ≡ q .answer
+  pub stores : p .stores ≡ q .stores
+
+pub operation-alike : (a : Action) (c : List ℕ) (o : Object) (see other : Seen) → Alike (operation a c o see) (operation a c o other)
+unfolding operation
+operation-alike GetData c o see other = search
+operation-alike GetMetadata c o see other = search
+operation-alike Write c o see other = search
+operation-alike EraseAndWrite c o see other = search
+operation-alike SetMetadata c o see other = search
+
+-- rulings: what they say and what they do
+pub record RulingAlike (r q : Ruling) : Type 0 where
+  pub verdict : r .verdict ≡ q .verdict
+  pub does : Alike (r .does) (q .does)
+
+pub ruling-alike : (a : Action) (c : List ℕ) (m : Option Object) (see other : Seen) → SameStates (see .session) (other .session) →
+    RulingAlike (ruling-on a c m see) (ruling-on a c m other)
+unfolding ruling-on setting-session granted
+ruling-alike a c none see other v = search
+ruling-alike a c (some o) see other v =
+    let p = operation-alike a c o see other in
+    let g = holds-alike see other (v .lcsg) (v .lcsa) (o .lcso) (asked a o) in
+    record { verdict = λ i. not (g i) refused AccessDenied or p .verdict i; does = p }
+
+pub late-alike : (r q : Ruling) (room : ℕ) → RulingAlike r q → late r room ≡ late q room
+unfolding late
+late-alike r q room a = λ i. a .verdict i and-then fitting (length (a .does .answer i)) room
+
+-- what is left ------------------------------------------------------------------------------------------------------------------
+
+-- an action on an object outside the session leaves the session
+pub session-left : (a : Action) (c : List ℕ) (o : Object) (see : Seen) → in-session (o .number) ≡ false → operation a c o see .session ≡ see .session
+unfolding operation
+session-left GetData c o see h = rw (not-error-object (o .number) h)
+session-left GetMetadata c o see h = refl
+session-left Write c o see h = state-outside (o .number) _ (see .session) h
+session-left EraseAndWrite c o see h = state-outside (o .number) _ (see .session) h
+session-left SetMetadata c o see h = refl
