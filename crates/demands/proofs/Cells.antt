@@ -3,7 +3,7 @@ use Prim.Native.Nat.{ℕ, max}
 use mathlib.Core.Bool.{Bool, true, false}
 use mathlib.Core.List.{List, [], _∷_}
 use mathlib.Core.Option.{Option, none, some}
-use mathlib.Core.Path.{_≡_, refl, ap}
+use mathlib.Core.Path.{_≡_, refl}
 use native.Mathlib.Omega.{arith}
 use lib.Dec.{ltb}
 use lib.ListN.{length}
@@ -25,9 +25,6 @@ use Rattle.rules.specs.Run.{Turn, Reply}
 use Rattle.laws.proofs.Inverse.{pack-unpack}
 use Rattle.demands.proofs.Numbered.{put, put-other, puts-swap}
 
-unfoldable pub unanswered-reply : Turn → Reply
-unanswered-reply t = record { outcome = 1; room = t .room }
-
 unfoldable pub response : List ℕ → Turn → Reply
 response b t = record { outcome = 0; room = put-in-front b (t .room) }
 
@@ -43,15 +40,11 @@ ruled Accepted t n p = record { told = response (done-response (p .answer)) t; c
 abbrev pub view : Session → (ℕ → Option Object) → Seen
 view x f = record { session = x; stored = f }
 
--- by what is seen, where the store is sound or not
-unfoldable pub ruled-by : Turn → Bool → Seen → Ruling ℕ Object Reply
-ruled-by t sound see =
-    ruled (verdict sound (t .command) (length (t .room)) see) t (object-number (t .command)) (ruling (row (t .command)) (t .command) see .does)
-
--- step 1, then the verdict
+-- step 1, then the verdict, by what is seen, where the store is sound or not
 unfoldable pub ruled-at : Bool → Turn → Bool → Seen → Ruling ℕ Object Reply
-ruled-at true t sound see = record { told = unanswered-reply t; code = 0; stores = [] }
-ruled-at false t sound see = ruled-by t sound see
+ruled-at true t sound see = record { told = record { outcome = 1; room = t .room }; code = 0; stores = [] }
+ruled-at false t sound see =
+    ruled (verdict sound (t .command) (length (t .room)) see) t (object-number (t .command)) (ruling (row (t .command)) (t .command) see .does)
 
 abbrev pub small : Turn → Bool
 small t = ltb (length (t .room)) 4
@@ -77,11 +70,8 @@ lawful =
       put-comm = puts-swap;
       pack-unpack = λ b os u. pack-unpack b os u .0;
       view-raise = λ n s. refl;
-      raise-comm = λ n k s. ap (λ e. with-error e s) (max-swap (s .error) k n);
+      raise-comm = λ n k s. let e : max (max (s .error) k) n ≡ max (max (s .error) n) k = omega arith in rw e;
     }
-  where
-    max-swap : (e a b : ℕ) → max (max e a) b ≡ max (max e b) a
-    max-swap e a b = omega arith
 
 -- a command's footprint is the object that it names
 unfoldable pub Foot : Turn → (ℕ → Option Object) → ℕ → Type 0

@@ -4,12 +4,13 @@ use mathlib.Core.Bool.{Bool, true, false}
 use mathlib.Core.List.{List, [], _∷_}
 use mathlib.Core.Logic.{_≢_}
 use mathlib.Core.Option.{some}
-use mathlib.Core.Path.{_≡_, refl, sym, ap, _∙_}
+use mathlib.Core.Path.{_≡_, refl, sym, _∙_}
 use borrow.Author.Tests.{eqb-true, ne-eqb}
 use lib.Dec.{eqb}
 use Rattle.rules.specs.Basic.{if_then_else_}
 use Rattle.rules.specs.Object.{Object}
 use Rattle.rules.specs.Layout.{find, replaced}
+use Rattle.laws.proofs.Tests.{if-by}
 
 -- the object, under a number
 unfoldable pub numbered : ℕ → Object → Object
@@ -18,8 +19,7 @@ numbered n o =
 
 pub renumber : (n : ℕ) (o : Object) → o .number ≡ n → numbered n o ≡ o
 unfolding numbered
-renumber n o q = λ i.
-    record { number = sym q i; kind = o .kind; maximum = o .maximum; lcso = o .lcso; change = o .change; read = o .read; execute = o .execute; content = o .content }
+renumber n o q = rw (← q)
 
 -- an object in the place of the one of number n
 unfoldable pub put : ℕ → Object → List Object → List Object
@@ -28,13 +28,10 @@ put n o os = replaced (numbered n o) os
 pub put-other : (k j : ℕ) (v : Object) (os : List Object) → k ≢ j → find k (put j v os) ≡ find k os
 unfolding put numbered replaced find
 put-other k j v [] h = refl
-put-other k j v (o ∷ os) h = go (eqb (o .number) j) refl (put-other k j v os h)
-  where
-    go : (t : Bool) → eqb (o .number) j ≡ t → find k (put j v os) ≡ find k os →
-        (if eqb k ((if t then numbered j v else o) .number) then some (if t then numbered j v else o) else find k (put j v os)) ≡
-        (if eqb k (o .number) then some o else find k os)
-    go true e ih = rw (ne-eqb k j h, ne-eqb k (o .number) (λ q. h (q ∙ eqb-true (o .number) j e))) ih
-    go false e ih = ap (λ r. if eqb k (o .number) then some o else r) ih
+put-other k j v (o ∷ os) h =
+    let ih = put-other k j v os h in
+    if-by (λ x. (if eqb k (x .number) then some x else find k (put j v os)) ≡ (if eqb k (o .number) then some o else find k os))
+    (eqb (o .number) j) (numbered j v) o (λ e. rw (ne-eqb k j h, ne-eqb k (o .number) (λ q. h (q ∙ eqb-true (o .number) j e))) ih) (λ e. rw ih)
 
 pub puts-swap : (k j : ℕ) (v w : Object) (os : List Object) → k ≢ j → put k v (put j w os) ≡ put j w (put k v os)
 unfolding put numbered replaced

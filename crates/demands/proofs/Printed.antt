@@ -1,6 +1,6 @@
 -- The text of every list fits: no line has more than 251 bytes for each byte of its command and of its length.
 use Prim.Native.Nat.{ℕ, zero, suc, _+_, _*_, _≤_, _<_}
-use mathlib.Core.Bool.{Bool, true, false}
+use mathlib.Core.Bool.{true, false}
 use mathlib.Core.List.{List, [], _∷_, _++_}
 use mathlib.Core.Option.{Option, none, some}
 use mathlib.Core.Path.{_≡_, refl, ap, _∙_}
@@ -13,8 +13,7 @@ use Rattle.rules.specs.declared.Action.{Action}
 use Rattle.rules.specs.declared.Action.the-variants.{GetData, GetMetadata, Write, EraseAndWrite, SetMetadata}
 use Rattle.rules.specs.declared.Row.{Row}
 use Rattle.rules.specs.declared.Row.the-variants.{OnObject, OpenApplication, CloseApplication, Unknown}
-use Rattle.rules.specs.declared.Verdict.{Verdict}
-use Rattle.rules.specs.declared.Verdict.the-variants.{Refused, Accepted}
+use Rattle.rules.specs.declared.Verdict.the-variants.{Accepted}
 use Rattle.rules.specs.Basic.{zeros, big-endian-at, is-some, or-else}
 use Rattle.rules.specs.Hex.{ascii}
 use Rattle.rules.specs.Command.{table-line, command-table, no-line, line-of, cmd, param, row, object-number}
@@ -27,8 +26,9 @@ use Rattle.rules.specs.Metadata.{field, fields-bytes, object-fields, led-by-20,
 use Rattle.rules.specs.Access.{Seen, seen, named, asked, granted}
 use Rattle.rules.specs.Operation.{operation, setting-session}
 use Rattle.rules.specs.Refusals.{ruling-on, ruling-of, ruling, verdict}
-use Rattle.rules.specs.Step.{After, declined, performed, answered, judged, flushed, step}
+use Rattle.rules.specs.Step.{After, unanswered, declined, performed, flushed, step}
 use Rattle.rules.specs.Program.{upper-hex, line, response-in, answer-line, lines, printed}
+use Rattle.laws.proofs.Tests.{if-by}
 use Rattle.laws.proofs.Expressions.{expression-length}
 use Rattle.laws.proofs.Facts.{Allowed}
 use Rattle.laws.proofs.Inverse.{two-bytes, pack-unpack}
@@ -36,8 +36,7 @@ use Rattle.laws.proofs.Verdicts.{nine-passed, verdict-passed}
 use Rattle.laws.proofs.Rows.{every-line, in-full}
 use Rattle.laws.proofs.Named.{in-store, found-there}
 use Rattle.laws.proofs.Fitting.{not-never}
-use Rattle.laws.proofs.Keeps.{chosen, malformed-refused, step-room-length}
-use Rattle.demands.proofs.Demand1.{step-judged}
+use Rattle.laws.proofs.Keeps.{does, step-by, malformed-refused, step-room-length}
 
 -- what is shown of a room -----------------------------------------------------------------------------------------------------
 
@@ -100,35 +99,27 @@ answer-short c store room (some os) s l u v = by (row c) refl
     by CloseApplication e = omega arith
     by Unknown e = omega arith
 
-judged-short : (c room store : List ℕ) (m : Option (List Object)) (s : Session) → length c < 10 → unpack store ≡ m →
-    length (response-in (judged c room store m s .room)) ≤ 104
-unfolding judged answered performed declined put-in-front done-response refused-response
-judged-short c room store m s l u = go (verdict (is-some m) c (length room) see) refl
-  where
-    see : Seen
-    see = seen (or-else m []) s
-
-    go : (v : Verdict) → verdict (is-some m) c (length room) see ≡ v →
-        length (response-in (answered v (ruling (row c) c see .does) room store (or-else m []) s .room)) ≤ 104
-    go (Refused r) e = omega (arith, response-length (put-in-front refused-response room) .1)
-    go Accepted e =
-        let out = ruling (row c) c see .does .answer in
-        omega (arith, response-length (put-in-front (done-response out) room) .1, two-bytes (length out), answer-short c store (length room) m s l u e)
+-- so its response has at most 104 bytes
+response-short : (c room store : List ℕ) (s : Session) → length c < 10 → length (response-in (step c room store s .room)) ≤ 104
+unfolding unanswered performed declined put-in-front done-response refused-response
+response-short c room store s l =
+    step-by (λ a. length (response-in (a .room)) ≤ 104) c room store s
+    (λ m. omega (arith, response-length room .0, m)) (λ m r e. omega (arith, response-length (put-in-front refused-response room) .1))
+    (λ m e.
+    let out = does c (unpack store) (flushed c s) .answer in
+    let short = answer-short c store (length room) _ (flushed c s) l refl e in
+    omega (arith, response-length (put-in-front (done-response out) room) .1, two-bytes (length out), short))
 
 -- lines -----------------------------------------------------------------------------------------------------------------------
 
 -- a line has at most 251 bytes for each byte of its command and of its length
 pub line-short : (c room store : List ℕ) (s : Session) → length room ≡ 1504 → length (answer-line (step c room store s)) ≤ 251 * (2 + length c)
-line-short c room store s h = by (ltb (length c) 10) refl
-  where
-    by : (t : Bool) → ltb (length c) 10 ≡ t → length (answer-line (step c room store s)) ≤ 251 * (2 + length c)
-    by true e =
-        let a = judged c room store (unpack store) (flushed c s) in
-        let short = judged-short c room store (unpack store) (flushed c s) (ltb-true (length c) 10 e) refl in
-        rw (step-judged c room store s (omega (arith, h))) (omega (arith, line-length a, short))
-    by false e =
-        let a = step c room store s in
-        omega (arith, h, line-length a, response-length (a .room) .0, step-room-length c room store s, ltb-false (length c) 10 e)
+line-short c room store s h =
+    let a = step c room store s in
+    elim (ltb (length c) 10) as (λ t. ltb (length c) 10 ≡ t → length (answer-line (step c room store s)) ≤ 251 * (2 + length c)) [
+      | true ↦ λ e. omega (arith, line-length a, response-short c room store s (ltb-true (length c) 10 e))
+      | false ↦ λ e. omega (arith, h, line-length a, response-length (a .room) .0, step-room-length c room store s, ltb-false (length c) 10 e)
+    ] refl
 
 -- so have all lines
 pub lines-fit : (n : ℕ) (input store : List ℕ) (s : Session) → length (lines n input store s) ≤ 251 * length input
@@ -142,12 +133,12 @@ lines-fit (suc n) (h ∷ l ∷ rest) store s =
     let more = lines n (drop size rest) (a .store) (a .session) in
     let first = line-short (take size rest) (zeros 1504) store s (length-replicate {A = ℕ} 1504 0) in
     let later = lines-fit n (drop size rest) (a .store) (a .session) in
-    chosen (λ text. length text ≤ 251 * length (h ∷ l ∷ rest)) (ltb (length rest) size) (line (ascii "cut")) (answer-line a ++ more) (omega arith)
+    if-by (λ text. length text ≤ 251 * length (h ∷ l ∷ rest)) (ltb (length rest) size) (line (ascii "cut")) (answer-line a ++ more) (λ t. omega arith)
     (λ t. omega (arith, first, later, length-append (answer-line a) more, length-take size rest, length-drop size rest))
 
 -- what the program prints fits the output that it has
 pub printed-fits : (input : List ℕ) → length (printed input) ≤ 4112384
 unfolding printed line ascii
 printed-fits input =
-    chosen (λ text. length text ≤ 4112384) (ltb 16384 (length input)) (line (ascii "too long")) _ (omega arith)
+    if-by (λ text. length text ≤ 4112384) (ltb 16384 (length input)) (line (ascii "too long")) _ (λ t. omega arith)
     (λ t. omega (arith, lines-fit (length input) input factory-store fresh-session, ltb-false 16384 (length input) t))

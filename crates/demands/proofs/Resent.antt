@@ -1,24 +1,23 @@
 -- No step looks at the last error: a refused command that is sent again with another last error is refused with the same number.
-use Prim.Native.Nat.{ℕ, zero, suc, _+_, _≤_, max}
-use mathlib.Core.Bool.{Bool, true, false, not}
-use mathlib.Core.List.{List, [], _∷_}
+use Prim.Native.Nat.{ℕ, _≤_, max}
+use mathlib.Core.Bool.{Bool, true, false}
+use mathlib.Core.List.{List, []}
 use mathlib.Core.Option.{Option, none, some}
 use mathlib.Core.Path.{_≡_, refl, ap, _∙_}
 use native.Mathlib.Omega.{arith}
-use lib.Dec.{eqb, leb}
-use lib.ListN.{length, take, drop}
+use lib.Dec.{eqb}
+use lib.ListN.{length, length-take, length-drop}
 use Rattle.rules.specs.declared.Session.{Session}
 use Rattle.rules.specs.declared.Kind.the-variants.{LifeCycle, Status}
 use Rattle.rules.specs.declared.Refusal.{Refusal}
-use Rattle.rules.specs.declared.Refusal.the-variants.{BoundaryExceeded}
 use Rattle.rules.specs.declared.Action.{Action}
 use Rattle.rules.specs.declared.Action.the-variants.{GetData, GetMetadata, Write, EraseAndWrite, SetMetadata}
 use Rattle.rules.specs.declared.Row.{Row}
 use Rattle.rules.specs.declared.Row.the-variants.{OnObject, OpenApplication, CloseApplication, Unknown}
 use Rattle.rules.specs.declared.Verdict.{Verdict}
-use Rattle.rules.specs.declared.Verdict.the-variants.{Refused, Accepted}
+use Rattle.rules.specs.declared.Verdict.the-variants.{Refused}
 use Rattle.rules.specs.Basic.{if_then_else_, or-else, is-some, first-of}
-use Rattle.rules.specs.Command.{row, asks-flush, object-number, offset, asked-length}
+use Rattle.rules.specs.Command.{row, asks-flush, object-number}
 use Rattle.rules.specs.Response.{code}
 use Rattle.rules.specs.Object.{Object, of-session, is, kind-number}
 use Rattle.rules.specs.Layout.{unpack, find}
@@ -26,32 +25,26 @@ use Rattle.rules.specs.Session.{session-change, session-object, session-objects
 use Rattle.rules.specs.Chain.{_refused_or_, _and-then_}
 use Rattle.rules.specs.Access.{Seen, seen, named, holds, asked, granted}
 use Rattle.rules.specs.Operation.{setting-session, operation}
-use Rattle.rules.specs.Refusals.{ruling-on, ruling-of, ruling, fitting, late, verdict}
+use Rattle.rules.specs.Refusals.{ruling-on, ruling-of, ruling, late, verdict}
 use Rattle.rules.specs.Step.{After, raised, declined, answered, judged, flushed, step}
-use Rattle.laws.proofs.Views.{error-aside, early-alike, ruling-alike, late-alike}
-use Rattle.demands.proofs.Demand1.{step-judged, judgment, does}
+use Rattle.laws.proofs.Tests.{if-by}
+use Rattle.laws.proofs.Named.{error-aside}
+use Rattle.laws.proofs.Views.{early-alike, ruling-alike, late-alike}
+use Rattle.demands.proofs.Demand1.{step-judged}
+use Rattle.laws.proofs.Keeps.{judgment}
 
 -- the byte that F1C2 holds decides nothing
-module _ (a : Action) (c : List ℕ) (see : Seen) (room n m : ℕ) where
-  as-long : (k j : ℕ) → length (take k (drop j (n ∷ []))) ≡ length (take k (drop j (m ∷ [])))
-  as-long zero j = refl
-  as-long (suc k) zero = refl
-  as-long (suc k) (suc j) = refl
-
+module _ (c : List ℕ) (see : Seen) (room n m : ℕ) where
   abbrev byte-late : Action → ℕ → Verdict
   byte-late a b = late (ruling-on a c (some (session-object 0xF1C2 Status b)) see) room
 
-  error-same : byte-late a n ≡ byte-late a m
+  error-same : (a : Action) → byte-late a n ≡ byte-late a m
   unfolding late ruling-on granted asked operation session-object session-change of-session is kind-number holds _refused_or_ _and-then_
-  error-same = by a
-    where
-      by : (a : Action) → byte-late a n ≡ byte-late a m
-      by GetData =
-          ap (λ k. not (leb (offset c + asked-length c) 1) refused BoundaryExceeded or Accepted and-then fitting k room) (as-long (asked-length c) (offset c))
-      by GetMetadata = refl
-      by Write = refl
-      by EraseAndWrite = refl
-      by SetMetadata = refl
+  error-same GetData = simp (length-take, length-drop)
+  error-same GetMetadata = refl
+  error-same Write = refl
+  error-same EraseAndWrite = refl
+  error-same SetMetadata = refl
 
 module _ (c : List ℕ) (room : ℕ) (n : ℕ) (s : Session) (os : List Object) where
   abbrev after : Seen
@@ -61,7 +54,8 @@ module _ (c : List ℕ) (room : ℕ) (n : ℕ) (s : Session) (os : List Object) 
   before = seen os s
 
   -- the object named, of which only F1C2 is another
-  named-same : (a : Action) → late (ruling-on a c (named (object-number c) after) before) room ≡ late (ruling-on a c (named (object-number c) before) before) room
+  named-same : (a : Action) →
+      late (ruling-on a c (named (object-number c) after) before) room ≡ late (ruling-on a c (named (object-number c) before) before) room
   unfolding named session-objects session-object find with-error seen
   named-same a = by (eqb (object-number c) 0xE0C0) (eqb (object-number c) 0xF1C0) (eqb (object-number c) 0xF1C2)
     where
@@ -73,7 +67,7 @@ module _ (c : List ℕ) (room : ℕ) (n : ℕ) (s : Session) (os : List Object) 
       by : (g b e : Bool) → late (ruling-on a c (at g b e n) before) room ≡ late (ruling-on a c (at g b e (s .error)) before) room
       by true b e = refl
       by false true e = refl
-      by false false true = error-same a c before room n (s .error)
+      by false false true = error-same c before room n (s .error) a
       by false false false = refl
 
   row-same : (r : Row) → late (ruling r c after) room ≡ late (ruling r c before) room
@@ -92,30 +86,18 @@ module _ (c : List ℕ) (room : ℕ) (n : ℕ) (s : Session) (os : List Object) 
 module _ (c room store : List ℕ) (s : Session) (r : Refusal) (fits : 4 ≤ length room) (no : judgment c room (unpack store) (flushed c s) ≡ Refused r) where
   flushed-same : flushed c (with-error 0 s) ≡ with-error 0 s
   unfolding flushed with-error
-  flushed-same = go (asks-flush c)
-    where
-      go : (t : Bool) → (if t then with-error 0 (with-error 0 s) else with-error 0 s) ≡ with-error 0 s
-      go true = refl
-      go false = refl
+  flushed-same = if-by (λ x. x ≡ with-error 0 s) (asks-flush c) _ _ (λ t. refl) (λ t. refl)
 
   verdict-same : judgment c room (unpack store) (with-error 0 s) ≡ judgment c room (unpack store) (flushed c s)
   unfolding flushed
-  verdict-same = go (asks-flush c)
-    where
-      go : (t : Bool) → judgment c room (unpack store) (with-error 0 s) ≡ judgment c room (unpack store) (if t then with-error 0 s else s)
-      go true = refl
-      go false = verdict-alike c (length room) 0 s (or-else (unpack store) []) (is-some (unpack store))
+  verdict-same =
+      if-by (λ x. judgment c room (unpack store) (with-error 0 s) ≡ judgment c room (unpack store) x) (asks-flush c) (with-error 0 s) s
+      (λ t. refl) (λ t. verdict-alike c (length room) 0 s (or-else (unpack store) []) (is-some (unpack store)))
 
   pub refused-again : step c room store (with-error 0 s) ≡ declined r room store (with-error 0 s)
   unfolding judged answered
-  refused-again =
-      step-judged c room store (with-error 0 s) fits ∙
-      ap (judged c room store (unpack store)) flushed-same ∙
-      ap (λ v. answered v (does c (unpack store) (with-error 0 s)) room store (or-else (unpack store) []) (with-error 0 s)) (verdict-same ∙ no)
+  refused-again = rw (step-judged c room store (with-error 0 s) fits, flushed-same, verdict-same, no)
 
   pub its-number : step c room store (with-error 0 s) .session .error ≡ code r
   unfolding declined raised with-error
-  its-number = ap (λ (a : After). a .session .error) refused-again ∙ zero-max (code r)
-    where
-      zero-max : (k : ℕ) → max 0 k ≡ k
-      zero-max k = omega arith
+  its-number = let zero-max : max 0 (code r) ≡ code r = omega arith in ap (λ (a : After). a .session .error) refused-again ∙ zero-max

@@ -17,7 +17,7 @@ use Rattle.rules.specs.Command.{asks-flush, cmd, param, in-length, in-data, siz
 use Rattle.rules.specs.Response.{done-response, put-in-front}
 use Rattle.rules.specs.Expression.{is-state, may-become}
 use Rattle.rules.specs.Object.{Object, in-session, with-content}
-use Rattle.rules.specs.Layout.{unpack, find, replaced}
+use Rattle.rules.specs.Layout.{find, replaced}
 use Rattle.rules.specs.Factory.{entry, table, before-operational, made, factory-objects, factory-store, fresh-session}
 use Rattle.rules.specs.Session.{with-opened, with-error}
 use Rattle.rules.specs.Metadata.{field, fields-bytes, led-by-20, read-fields, sent-fields, field-allowed, fields-allowed, metadata-allowed}
@@ -82,13 +82,9 @@ P3-writes = write-exactly-when P3 room factory-store opened factory-objects F1D0
 unfoldable pub written : List ℕ
 written = step P3 room factory-store opened .store
 
-written-sound : unpack written ≡ some (replaced F1D0-written factory-objects)
-unfolding computed P3 F1D0-written written
-written-sound = P3-writes .objects-after may-write
-
 pub written-ready : Ready room written opened (replaced F1D0-written factory-objects)
-unfolding computed
-written-ready = search (written-sound, arith)
+unfolding computed P3 F1D0-written written
+written-ready = search (P3-writes .objects-after may-write, arith)
 
 -- P4: the 17 bytes read back
 unfoldable pub P4 : List ℕ

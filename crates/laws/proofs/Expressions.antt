@@ -1,16 +1,15 @@
 -- The bytes of an expression read back as that expression, and how long they are.
 use Prim.Native.Nat.{ℕ, _+_, _*_, _≤_}
-use mathlib.Core.Bool.{Bool, true, false, _&&_}
+use mathlib.Core.Bool.{true, false, and-false}
 use mathlib.Core.List.{List, [], _∷_, _++_}
-use mathlib.Core.Path.{_≡_, refl, sym, ap, _∙_}
-use native.Mathlib.Nat.{not-suc-le-zero, le-of-suc-le-suc}
+use mathlib.Core.Path.{_≡_, refl, ap, _∙_}
 use native.Mathlib.Omega.{arith}
 use lib.Dec.{eqb}
 use borrow.Author.Tests.{leb-true}
 use lib.ListN.{length, length-append}
 use mathlib.Core.Option.{some}
 use Rattle.rules.specs.Basic.{same}
-use Rattle.laws.proofs.Tests.{chosen, and-left, and-right, at-place, same-refl, same-eq}
+use Rattle.laws.proofs.Tests.{at-place, same-refl, read-checked}
 use Rattle.rules.specs.Expression.{Group, just, _and_, Groups, only, _or_, Expression, always, never, when, condition-bytes, group-bytes, groups-bytes, expression-bytes, in-first, read-groups, read-expression, group-size, conditions, slot-size, most-conditions, expression-allowed-with, expression-allowed, expression-with, expression}
 
 -- reading back --------------------------------------------------------------------------------------------------------
@@ -55,23 +54,12 @@ expression-length = expression-length-with slot-size (omega arith)
 -- an expression of groups has at least three bytes, so it is neither 00 nor FF
 same-one : (b : List ℕ) (x : ℕ) → 2 ≤ length b → same b (x ∷ []) ≡ false
 unfolding same
-same-one [] x h = absurd (not-suc-le-zero h)
-same-one (y ∷ []) x h = absurd (not-suc-le-zero (le-of-suc-le-suc h))
-same-one (y ∷ z ∷ b) x h = go (eqb y x)
-  where
-    go : (t : Bool) → t && false ≡ false
-    go true = refl
-    go false = refl
-
-group-two : (g : Group) → 1 ≤ group-size g
-unfolding group-size
-group-two (just c) = omega arith
-group-two (c and g) = omega arith
+same-one [] x h = absurd (omega arith)
+same-one (y ∷ []) x h = absurd (omega arith)
+same-one (y ∷ z ∷ b) x h = and-false (eqb y x)
 
 pub groups-two : (gs : Groups) → 1 ≤ conditions gs
-unfolding conditions
-groups-two (only g) = group-two g
-groups-two (g or gs) = omega (arith, group-two g)
+groups-two gs = omega (arith, groups-length gs)
 
 pub read-bytes : (e : Expression) → read-expression (expression-bytes e) ≡ e
 unfolding read-expression expression-bytes
@@ -90,12 +78,7 @@ expression-back-with slot e h = rw (read-bytes e, h, same-refl (expression-bytes
 pub expression-read-with : (slot : ℕ) (b : List ℕ) (e : Expression) → expression-with slot b ≡ some e →
     (expression-bytes e ≡ b) × (expression-allowed-with slot e ≡ true)
 unfolding expression-with
-expression-read-with slot b e h =
-    let r = read-expression b in
-    let (t, q) = chosen (expression-allowed-with slot r && same (expression-bytes r) b) r e h in (
-      ap expression-bytes (sym q) ∙ same-eq (expression-bytes r) b (and-right (expression-allowed-with slot r) (same (expression-bytes r) b) t),
-      ap (expression-allowed-with slot) (sym q) ∙ and-left (expression-allowed-with slot r) (same (expression-bytes r) b) t,
-    )
+expression-read-with slot b e h = read-checked (expression-allowed-with slot) expression-bytes b (read-expression b) e h
 
 -- with the present slots
 pub expression-back : (e : Expression) → expression-allowed e ≡ true → expression (expression-bytes e) ≡ some e

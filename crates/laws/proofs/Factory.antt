@@ -22,7 +22,6 @@ factory-sound = unpack-pack factory-objects factory-allowed
 
 pub factory-length : length factory-store ≡ 6024
 unfolding factory-store
-factory-length = pack-length factory-objects (all-allowed-facts factory-objects factory-allowed .each) ∙ total
-  where
-    total : size factory-objects ≡ 6024
-    total = unfold size-with entry table made factory-objects in refl
+factory-length =
+    let total : size factory-objects ≡ 6024 = unfold size-with entry table made factory-objects in refl in
+    pack-length factory-objects (all-allowed-facts factory-objects factory-allowed .each) ∙ total

@@ -11,7 +11,7 @@ use Rattle.rules.specs.Basic.{all, rising}
 use Rattle.rules.specs.Expression.{slot-size, is-state, expression-allowed-with}
 use Rattle.rules.specs.Object.{Object, used, kind-number, read-kind, of-session, is, data-allowed, in-session, object-allowed-with, object-allowed, all-allowed-with}
 use Rattle.rules.specs.Layout.{size-with, objects-allowed-with, objects-allowed}
-use Rattle.laws.proofs.Tests.{at-place}
+use Rattle.laws.proofs.Tests.{and-left, and-right, and-both, false-not}
 
 -- kinds ---------------------------------------------------------------------------------------------------------------
 
@@ -44,39 +44,15 @@ abbrev pub Allowed : Object → Type 0
 Allowed = AllowedWith slot-size
 
 pub allowed-with : (slot : ℕ) (o : Object) → object-allowed-with slot o ≡ true → AllowedWith slot o
-unfolding object-allowed-with
-allowed-with slot o h =
-    record {
-      number-small = ltb-true (o .number) 0x10000 (at-place _ h 0);
-      outside-session = not-true (in-session (o .number)) (at-place _ h 1);
-      some-room = leb-true 1 (o .maximum) (at-place _ h 2);
-      most = leb-true (o .maximum) 1500 (at-place _ h 3);
-      used-fits = leb-true (used o) (o .maximum) (at-place _ h 4);
-      state = at-place _ h 5;
-      change = at-place _ h 6;
-      read = at-place _ h 7;
-      execute = at-place _ h 8;
-      content = at-place _ h 9;
-    }
+unfolding object-allowed-with all
+allowed-with slot o h = search (and-left, and-right, ltb-true, leb-true, not-true) depth 12
 
 pub allowed : (o : Object) → object-allowed o ≡ true → Allowed o
 allowed = allowed-with slot-size
 
 pub allowed-by : {slot : ℕ} (o : Object) → AllowedWith slot o → object-allowed-with slot o ≡ true
 unfolding object-allowed-with all
-allowed-by o a =
-    rw (
-      lt-ltb (o .number) 0x10000 (a .number-small),
-      a .outside-session,
-      le-leb 1 (o .maximum) (a .some-room),
-      le-leb (o .maximum) 1500 (a .most),
-      le-leb (used o) (o .maximum) (a .used-fits),
-      a .state,
-      a .change,
-      a .read,
-      a .execute,
-      a .content,
-    )
+allowed-by o a = search (and-both, lt-ltb, le-leb, false-not, a) depth 12
 
 -- all of a store ----------------------------------------------------------------------------------------------------------
 
@@ -94,20 +70,12 @@ abbrev pub AllAllowed : List Object → Type 0
 AllAllowed = AllAllowedWith slot-size
 
 pub all-allowed-with-facts : (slot : ℕ) (os : List Object) → objects-allowed-with slot os ≡ true → AllAllowedWith slot os
-unfolding objects-allowed-with numbers
-all-allowed-with-facts slot os h =
-    record {
-      some-object = leb-true 1 (length os) (at-place _ h 0);
-      count = leb-true (length os) 32 (at-place _ h 1);
-      fits = leb-true (size-with slot os) 16384 (at-place _ h 2);
-      rises = at-place _ h 3;
-      each = at-place _ h 4;
-    }
+unfolding objects-allowed-with numbers all
+all-allowed-with-facts slot os h = search (and-left, and-right, leb-true) depth 12
 
 pub all-allowed-facts : (os : List Object) → objects-allowed os ≡ true → AllAllowed os
 all-allowed-facts = all-allowed-with-facts slot-size
 
 pub all-allowed-by : {slot : ℕ} (os : List Object) → AllAllowedWith slot os → objects-allowed-with slot os ≡ true
 unfolding objects-allowed-with numbers all
-all-allowed-by {slot} os a =
-    rw (le-leb 1 (length os) (a .some-object), le-leb (length os) 32 (a .count), le-leb (size-with slot os) 16384 (a .fits), a .rises, a .each)
+all-allowed-by os a = search (and-both, le-leb, a) depth 12

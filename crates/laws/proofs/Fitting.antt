@@ -1,26 +1,27 @@
 -- What an action stores may stand in the place of the object that it found: it is allowed and as large.
 use Prim.Native.Nat.{ℕ, _+_, _≤_}
-use mathlib.Core.Bool.{Bool, true, false, _&&_, false≢true}
+use mathlib.Core.Bool.{Bool, true, false, false≢true}
 use mathlib.Core.List.{List, [], _∷_}
 use mathlib.Core.Option.{Option, none, some}
-use mathlib.Core.Path.{_≡_, refl, sym, ap, _∙_}
+use mathlib.Core.Path.{_≡_, refl, ap, _∙_}
 use native.Mathlib.Omega.{arith}
 use borrow.Author.Tests.{leb-true, eqb-true, not-false}
-use lib.Dec.{eqb, leb}
-use lib.ListN.{length, length-append, length-take, length-drop, length-replicate, getD}
+use lib.Dec.{eqb}
+use lib.ListN.{length, length-append, length-take, length-drop, length-replicate}
 use Rattle.rules.specs.declared.Kind.{Kind}
 use Rattle.rules.specs.declared.Kind.the-variants.{Data, LifeCycle, Status}
 use Rattle.rules.specs.declared.Action.{Action}
 use Rattle.rules.specs.declared.Action.the-variants.{GetData, GetMetadata, Write, EraseAndWrite, SetMetadata}
 use Rattle.rules.specs.declared.Verdict.the-variants.{Accepted}
-use Rattle.rules.specs.Basic.{if_then_else_, same, or-else}
+use Rattle.rules.specs.Basic.{if_then_else_, or-else}
 use Rattle.rules.specs.Command.{offset, sent-data, sent-metadata}
-use Rattle.rules.specs.Expression.{Expression, never, expression-with, expression, expression-allowed, expression-bytes, read-expression, is-state, may-become}
+use Rattle.rules.specs.Expression.{Expression, never, expression, expression-allowed, is-state, may-become}
 use Rattle.rules.specs.Object.{Object, of-session, data-allowed, object-allowed, with-content}
 use Rattle.rules.specs.Metadata.{Field, field-allowed, fields-allowed, value-of, sent-state, sent-expression, with-fields, metadata-allowed, sent-fields}
 use Rattle.rules.specs.Access.{Seen, holds, asked, granted}
 use Rattle.rules.specs.Operation.{put-at, writing, operation}
-use Rattle.laws.proofs.Tests.{and-left, and-right, at-place}
+use Rattle.laws.proofs.Tests.{if-by, and-left, and-right, at-place}
+use Rattle.laws.proofs.Expressions.{expression-read}
 use Rattle.laws.proofs.Facts.{allowed, allowed-by}
 use Rattle.laws.proofs.Verdicts.{passed}
 
@@ -30,14 +31,7 @@ pub record Fitting (o new : Object) : Type 0 where
   pub number : new .number ≡ o .number
   pub maximum : new .maximum ≡ o .maximum
 
-fitting-is : (o new p : Object) → p ≡ new → Fitting o p → Fitting o new
-fitting-is o new p q f = rw q at f
-
 -- data ---------------------------------------------------------------------------------------------------------------------
-
-put-length : (k m : ℕ) (b old : List ℕ) → k + length b ≤ m → length old ≤ m → length (put-at k b old) ≤ m
-unfolding put-at
-put-length k m b old h l = simp (length-append, length-take, length-drop, length-replicate) (omega arith)
 
 -- of the kinds that take any write, any bytes are allowed
 any-bytes : (k : Kind) (m : ℕ) (old b : List ℕ) → data-allowed k m old ≡ true → data-allowed k m b ≡ true
@@ -56,22 +50,12 @@ content-fits b o h l =
 -- metadata -------------------------------------------------------------------------------------------------------------------
 
 -- an expression that is read is allowed
-read-allowed : (v : List ℕ) (old : Expression) → expression-allowed old ≡ true → expression-allowed (or-else (expression v) old) ≡ true
-unfolding expression-with
-read-allowed v old h = go (expression-allowed e) (same (expression-bytes e) v) refl
-  where
-    e : Expression
-    e = read-expression v
-
-    go : (t u : Bool) → expression-allowed e ≡ t → expression-allowed (or-else (if t && u then some e else none) old) ≡ true
-    go true true p = p
-    go true false p = h
-    go false u p = h
-
 sent-allowed : (m : Option (List ℕ)) (old : Expression) → expression-allowed old ≡ true → expression-allowed (sent-expression m old) ≡ true
 unfolding sent-expression
 sent-allowed none old h = h
-sent-allowed (some v) old h = read-allowed v old h
+sent-allowed (some v) old h =
+    elim (expression v) as (λ m. expression v ≡ m → expression-allowed (or-else m old) ≡ true)
+    [ none ↦ λ q. h | some e ↦ λ q. expression-read v e q .1 ] refl
 
 -- the value found under a tag is that of an allowed field
 value-of-allowed : (lcso : ℕ) (t : ℕ) (fs : List Field) (v : List ℕ) → fields-allowed lcso fs ≡ true → value-of t fs ≡ some v →
@@ -79,33 +63,19 @@ value-of-allowed : (lcso : ℕ) (t : ℕ) (fs : List Field) (v : List ℕ) → f
 unfolding fields-allowed value-of
 value-of-allowed lcso t [] v h e = let z : _≡_ {A = ℕ} 0 1 = cc in absurd (omega arith)
 value-of-allowed lcso t (f ∷ fs) v h e =
-    go (eqb t (f .tag)) refl e (value-of-allowed lcso t fs v (and-right (field-allowed lcso f) (fields-allowed lcso fs) h))
-  where
-    go : (b : Bool) → eqb t (f .tag) ≡ b → (if b then some (f .value) else value-of t fs) ≡ some v →
-        (value-of t fs ≡ some v → field-allowed lcso (record { tag = t; value = v }) ≡ true) → field-allowed lcso (record { tag = t; value = v }) ≡ true
-    go true q e later =
-        let p : f .value ≡ v = cc in
-        ap (λ (x : Field). field-allowed lcso x) (λ i. record { tag = eqb-true t (f .tag) q i; value = sym p i }) ∙
-        and-left (field-allowed lcso f) (fields-allowed lcso fs) h
-    go false q e later = later e
-
-state-allowed : (o : Object) (fs : List Field) → fields-allowed (o .lcso) fs ≡ true → is-state (o .lcso) ≡ true →
-    is-state (sent-state (value-of 0xC0 fs) (o .lcso)) ≡ true
-unfolding sent-state
-state-allowed o fs h old = go (value-of 0xC0 fs) refl
-  where
-    go : (m : Option (List ℕ)) → value-of 0xC0 fs ≡ m → is-state (sent-state m (o .lcso)) ≡ true
-    go none e = old
-    go (some v) e =
-        unfold field-allowed may-become in
-        and-left (is-state (getD v 0 0)) (leb (o .lcso) (getD v 0 0))
-        (and-right (eqb (length v) 1) (may-become (o .lcso) (getD v 0 0)) (value-of-allowed (o .lcso) 0xC0 fs v h e))
+    if-by (λ m. m ≡ some v → field-allowed lcso (record { tag = t; value = v }) ≡ true) (eqb t (f .tag)) (some (f .value)) (value-of t fs)
+    (λ q e.
+    let p : v ≡ f .value = cc in
+    ap (field-allowed lcso) (λ i. record { tag = eqb-true t (f .tag) q i; value = p i }) ∙ and-left (field-allowed lcso f) _ h)
+    (λ q. value-of-allowed lcso t fs v (and-right (field-allowed lcso f) _ h)) e
 
 fields-fit : (o : Object) (fs : List Field) → object-allowed o ≡ true → fields-allowed (o .lcso) fs ≡ true → Fitting o (with-fields fs o)
-unfolding with-fields
+unfolding with-fields sent-state field-allowed may-become
 fields-fit o fs h g =
     let a = allowed o h in
-    let state = state-allowed o fs g (a .state) in
+    let state : is-state (sent-state (value-of 0xC0 fs) (o .lcso)) ≡ true =
+    elim (value-of 0xC0 fs) as (λ m. value-of 0xC0 fs ≡ m → is-state (sent-state m (o .lcso)) ≡ true)
+    [ none ↦ λ e. a .state | some v ↦ λ e. let f = value-of-allowed (o .lcso) 0xC0 fs v g e in search (and-left, and-right) ] refl in
     let change = sent-allowed (value-of 0xD0 fs) (o .change) (a .change) in
     let read = sent-allowed (value-of 0xD1 fs) (o .read) (a .read) in
     let execute = sent-allowed (value-of 0xD3 fs) (o .execute) (a .execute) in
@@ -125,11 +95,11 @@ not-never false see lcso e g = refl
 
 written : (old c : List ℕ) (o : Object) (see : Seen) (new : Object) → object-allowed o ≡ true → length old ≤ o .maximum →
     writing old c o see .verdict ≡ Accepted → writing old c o see .stores ≡ some new → Fitting o new
-unfolding writing
+unfolding writing put-at
 written old c o see new h l v e =
     let within = leb-true (offset c + length (sent-data c)) (o .maximum) (not-false _ (passed _ _ _ v .0)) in
-    fitting-is o new _ (not-chosen (of-session (o .kind)) _ new e .1)
-    (content-fits _ o h (put-length (offset c) (o .maximum) (sent-data c) old within l))
+    let fits : length (put-at (offset c) (sent-data c) old) ≤ o .maximum = simp (length-append, length-take, length-drop, length-replicate) (omega arith) in
+    rw (not-chosen (of-session (o .kind)) _ new e .1) at (content-fits (put-at (offset c) (sent-data c) old) o h fits)
 
 -- what an accepted action stores fits
 pub operation-fitting : (a : Action) (c : List ℕ) (o : Object) (see : Seen) (new : Object) → object-allowed o ≡ true →
@@ -142,7 +112,7 @@ operation-fitting EraseAndWrite c o see new h v e = written [] c o see new h (om
 operation-fitting SetMetadata c o see new h v e =
     let fs = sent-fields (sent-metadata c) in
     let q : with-fields fs o ≡ new = cc in
-    fitting-is o new _ q (fields-fit o fs h (unfold metadata-allowed in at-place _ (not-false _ (passed _ _ _ v .0)) 3))
+    rw q at (fields-fit o fs h (unfold metadata-allowed in at-place _ (not-false _ (passed _ _ _ v .0)) 3))
 
 -- and nothing is stored in the place of an object of the session
 pub operation-outside : (a : Action) (c : List ℕ) (o : Object) (see : Seen) (new : Object) → granted a o see ≡ true →

@@ -1,20 +1,20 @@
 -- `pack` and `unpack` are inverse, over the size of a slot: a store is well formed exactly where it is the packing of allowed objects, and of
 -- these ones alone.
 use Prim.Native.Nat.{ℕ, zero, suc, _+_, _*_, _-_, _/_, _%_, _≤_}
-use mathlib.Core.Bool.{true, _&&_}
+use mathlib.Core.Bool.{true}
 use mathlib.Core.List.{List, [], _∷_, _++_, append-assoc}
 use mathlib.Core.Option.{some}
-use mathlib.Core.Path.{_≡_, refl, sym, ap, _∙_}
+use mathlib.Core.Path.{_≡_, refl, sym, ap, ap₂, _∙_}
 use native.Mathlib.Nat.{mod-add-div, not-suc-le-zero, le-of-suc-le-suc}
 use native.Mathlib.Omega.{arith}
 use lib.ListN.{length, length-append, length-replicate, take, drop}
 use lib.Seq.{take-at, drop-at, drop-drop}
-use Rattle.rules.specs.Basic.{same, zeros, little-endian-at}
+use Rattle.rules.specs.Basic.{zeros, little-endian-at}
 use Rattle.rules.specs.Expression.{Expression, slot-size, expression-bytes, read-expression, expression-allowed-with, expression-allowed}
 use Rattle.rules.specs.Object.{Object, used, kind-number, read-kind, object-allowed-with, all-allowed-with}
 use Rattle.rules.specs.Layout.{record-size-with, objects-allowed-with, slot-of-with, record-bytes-with, pack-with, read-slot, read-record-with, read-records-with, unpack-with}
 use Rattle.rules.specs.Layout.{slot, record-size, record-bytes, read-record, pack, unpack, objects-allowed}
-use Rattle.laws.proofs.Tests.{chosen, and-left, and-right, same-refl, same-eq}
+use Rattle.laws.proofs.Tests.{and-left, and-right, same-refl, read-checked}
 use Rattle.laws.proofs.Expressions.{expression-length-with, read-bytes}
 use Rattle.laws.proofs.Facts.{storable, AllowedWith, Allowed, allowed-with, all-allowed-with-facts}
 
@@ -26,16 +26,10 @@ module _ (n : ℕ) (a b c d : List ℕ) (ha : length a ≡ n) (hb : length b ≡
   past-one = drop-at a (b ++ (c ++ d)) n ha
 
   pub past-two : drop (2 * n) (a ++ (b ++ (c ++ d))) ≡ c ++ d
-  past-two =
-      let e : 2 * n ≡ n + n = omega arith in
-      ap (λ (k : ℕ). drop k (a ++ (b ++ (c ++ d)))) e ∙ sym (drop-drop n n (a ++ (b ++ (c ++ d)))) ∙ ap (drop n) past-one ∙
-      drop-at b (c ++ d) n hb
+  past-two = let e : 2 * n ≡ n + n = omega arith in rw (e, ← drop-drop n n, past-one) (drop-at b (c ++ d) n hb)
 
   pub past-three : drop (3 * n) (a ++ (b ++ (c ++ d))) ≡ d
-  past-three =
-      let e : 3 * n ≡ 2 * n + n = omega arith in
-      ap (λ (k : ℕ). drop k (a ++ (b ++ (c ++ d)))) e ∙ sym (drop-drop n (2 * n) (a ++ (b ++ (c ++ d)))) ∙ ap (drop n) past-two ∙
-      drop-at c d n hc
+  past-three = let e : 3 * n ≡ 2 * n + n = omega arith in rw (e, ← drop-drop n (2 * n), past-two) (drop-at c d n hc)
 
 -- a number in two bytes
 pub two-bytes : (n : ℕ) → n % 256 + 256 * (n / 256) ≡ n
@@ -58,102 +52,46 @@ module _ (slot : ℕ) (l : 2 ≤ slot) where
   pub record-length-with : (o : Object) → AllowedWith slot o → length (record-bytes-with slot o) ≡ record-size-with slot o
   unfolding record-bytes-with
   record-length-with o h =
-      simp (length-append, length-replicate, slot-length-with _ (h .change), slot-length-with _ (h .read), slot-length-with _ (h .execute)) (omega (arith, h .used-fits))
+      simp (length-append, length-replicate, slot-length-with _ (h .change), slot-length-with _ (h .read), slot-length-with _ (h .execute))
+      (omega (arith, h .used-fits))
 
   pub record-read-with : (o : Object) (r : List ℕ) → AllowedWith slot o → read-record-with slot (record-bytes-with slot o ++ r) ≡ o
   unfolding record-bytes-with read-record-with little-endian-at
-  record-read-with o r h = λ i.
+  record-read-with o r h =
+      let a = slot-of-with slot (expression-bytes (o .change)) in
+      let b = slot-of-with slot (expression-bytes (o .read)) in
+      let c = slot-of-with slot (expression-bytes (o .execute)) in
+      let d = o .content ++ (zeros (o .maximum - used o) ++ r) in
+      let ha = slot-length-with (o .change) (h .change) in
+      let hb = slot-length-with (o .read) (h .read) in
+      let hc = slot-length-with (o .execute) (h .execute) in
+      -- behind the first 12 bytes
+      let behind : (k : ℕ) → drop (12 + k) (record-bytes-with slot o ++ r) ≡ drop k (a ++ (b ++ (c ++ d))) =
+      λ k. sym (drop-drop k 12 (record-bytes-with slot o ++ r)) ∙ ap (drop k) (simp append-assoc) in
+      λ i.
       record {
         number = two-bytes (o .number) i;
         kind = (ap read-kind (two-bytes (kind-number (o .kind))) ∙ storable (o .kind) (o .maximum) (o .content) (h .content) .read-back) i;
         maximum = two-bytes (o .maximum) i;
         lcso = o .lcso;
-        change = change i;
-        read = read i;
-        execute = execute i;
-        content = content i;
+        change = (ap read-slot (behind 0) ∙ slot-read-with (o .change) (b ++ (c ++ d))) i;
+        read = (ap read-slot (behind slot ∙ past-one slot a b c d ha hb hc) ∙ slot-read-with (o .read) (c ++ d)) i;
+        execute = (ap read-slot (behind (2 * slot) ∙ past-two slot a b c d ha hb hc) ∙ slot-read-with (o .execute) d) i;
+        content = (ap₂ take (two-bytes (used o)) (behind (3 * slot) ∙ past-three slot a b c d ha hb hc) ∙ take-at (o .content) _ (used o) refl) i;
       }
-    where
-      a : List ℕ
-      a = slot-of-with slot (expression-bytes (o .change))
-
-      b : List ℕ
-      b = slot-of-with slot (expression-bytes (o .read))
-
-      c : List ℕ
-      c = slot-of-with slot (expression-bytes (o .execute))
-
-      d : List ℕ
-      d = o .content ++ (zeros (o .maximum - used o) ++ [])
-
-      regroup : (a ++ (b ++ (c ++ d))) ++ r ≡ a ++ (b ++ (c ++ (d ++ r)))
-      regroup = simp append-assoc
-
-      -- behind the first 12 bytes
-      all : List ℕ
-      all = (a ++ (b ++ (c ++ d))) ++ r
-
-      record-all : List ℕ
-      record-all = record-bytes-with slot o ++ r
-
-      behind : (k : ℕ) → drop (12 + k) record-all ≡ drop k all
-      behind k = sym (drop-drop k 12 record-all)
-
-      ha : length a ≡ slot
-      ha = slot-length-with (o .change) (h .change)
-
-      hb : length b ≡ slot
-      hb = slot-length-with (o .read) (h .read)
-
-      hc : length c ≡ slot
-      hc = slot-length-with (o .execute) (h .execute)
-
-      change : read-slot all ≡ o .change
-      change = ap read-slot regroup ∙ slot-read-with (o .change) (b ++ (c ++ (d ++ r)))
-
-      read : read-slot (drop (12 + slot) record-all) ≡ o .read
-      read =
-          ap read-slot (behind slot) ∙ ap (λ x. read-slot (drop slot x)) regroup ∙
-          ap read-slot (past-one slot a b c (d ++ r) ha hb hc) ∙ slot-read-with (o .read) (c ++ (d ++ r))
-
-      execute : read-slot (drop (12 + 2 * slot) record-all) ≡ o .execute
-      execute =
-          ap read-slot (behind (2 * slot)) ∙ ap (λ x. read-slot (drop (2 * slot) x)) regroup ∙
-          ap read-slot (past-two slot a b c (d ++ r) ha hb hc) ∙ slot-read-with (o .execute) (d ++ r)
-
-      content : take (used o % 256 + 256 * (used o / 256)) (drop (12 + 3 * slot) record-all) ≡ o .content
-      content =
-          ap (λ n. take n (drop (12 + 3 * slot) record-all)) (two-bytes (used o)) ∙ ap (take (used o)) (behind (3 * slot)) ∙
-          ap (λ x. take (used o) (drop (3 * slot) x)) regroup ∙
-          ap (take (used o)) (past-three slot a b c (d ++ r) ha hb hc ∙ append-assoc (o .content) _ r) ∙
-          take-at (o .content) _ (used o) refl
 
   -- all records -------------------------------------------------------------------------------------------------------
 
-  -- the first of several records is read, and the reading goes on after it
-  pub first-read-with : (n : ℕ) (o : Object) (r : List ℕ) → AllowedWith slot o → read-records-with slot (suc n) (record-bytes-with slot o ++ r) ≡ o ∷ read-records-with slot n r
-  first-read-with n o r h =
-      step ∙ ap (λ p. p ∷ read-records-with slot n (drop (little-endian-at 0 (record-bytes-with slot o ++ r)) (record-bytes-with slot o ++ r))) (record-read-with o r h) ∙
-      ap (λ k. o ∷ read-records-with slot n (drop k (record-bytes-with slot o ++ r))) first-length ∙ ap (λ x. o ∷ read-records-with slot n x) rest
-    where
-      step : read-records-with slot (suc n) (record-bytes-with slot o ++ r) ≡
-          read-record-with slot (record-bytes-with slot o ++ r) ∷ read-records-with slot n (drop (little-endian-at 0 (record-bytes-with slot o ++ r)) (record-bytes-with slot o ++ r))
-      step = unfold read-records-with record-bytes-with in refl
-
-      first-length : little-endian-at 0 (record-bytes-with slot o ++ r) ≡ record-size-with slot o
-      first-length = unfold record-bytes-with little-endian-at in two-bytes (record-size-with slot o)
-
-      rest : drop (record-size-with slot o) (record-bytes-with slot o ++ r) ≡ r
-      rest = drop-at (record-bytes-with slot o) r (record-size-with slot o) (record-length-with o h)
-
   pub records-read-with : (n : ℕ) (os : List Object) → length os ≤ n → all-allowed-with slot os ≡ true → read-records-with slot n (pack-with slot os) ≡ os
-  unfolding pack-with all-allowed-with
-  records-read-with zero [] l h = unfold read-records-with in refl
-  records-read-with (suc n) [] l h = unfold read-records-with in refl
+  unfolding pack-with all-allowed-with read-records-with record-bytes-with little-endian-at
+  records-read-with zero [] l h = refl
+  records-read-with (suc n) [] l h = refl
   records-read-with zero (o ∷ os) l h = absurd (not-suc-le-zero l)
   records-read-with (suc n) (o ∷ os) l h =
-      first-read-with n o (pack-with slot os) (allowed-with slot o (and-left (object-allowed-with slot o) (all-allowed-with slot os) h)) ∙
-      ap (λ x. o ∷ x) (records-read-with n os (le-of-suc-le-suc l) (and-right (object-allowed-with slot o) (all-allowed-with slot os) h))
+      let a = allowed-with slot o (and-left (object-allowed-with slot o) _ h) in
+      let first = record-read-with o (pack-with slot os) a in
+      let behind = drop-at (record-bytes-with slot o) (pack-with slot os) (record-size-with slot o) (record-length-with o a) in
+      rw (first, two-bytes (record-size-with slot o), behind, records-read-with n os (le-of-suc-le-suc l) (and-right (object-allowed-with slot o) _ h))
 
   -- the two theorems --------------------------------------------------------------------------------------------------
 
@@ -167,32 +105,24 @@ module _ (slot : ℕ) (l : 2 ≤ slot) where
   -- a store that is read is the packing of what is read, which is allowed
   pub pack-unpack-with : (b : List ℕ) (os : List Object) → unpack-with slot b ≡ some os → (pack-with slot os ≡ b) × (objects-allowed-with slot os ≡ true)
   unfolding unpack-with
-  pack-unpack-with b os h =
-      let ps = read-records-with slot 32 b in
-      let (t, e) = chosen (objects-allowed-with slot ps && same (pack-with slot ps) b) ps os h in (
-        ap (pack-with slot) (sym e) ∙ same-eq (pack-with slot ps) b (and-right (objects-allowed-with slot ps) (same (pack-with slot ps) b) t),
-        ap (objects-allowed-with slot) (sym e) ∙ and-left (objects-allowed-with slot ps) (same (pack-with slot ps) b) t,
-      )
+  pack-unpack-with b os h = read-checked (objects-allowed-with slot) (pack-with slot) b (read-records-with slot 32 b) os h
 
 -- with the present slots --------------------------------------------------------------------------------------------------
 
-two : 2 ≤ slot-size
-two = omega arith
-
 pub slot-length : (e : Expression) → expression-allowed e ≡ true → length (slot e) ≡ slot-size
-slot-length = slot-length-with slot-size two
+slot-length = slot-length-with slot-size (omega arith)
 
 pub slot-read : (e : Expression) (r : List ℕ) → read-slot (slot e ++ r) ≡ e
-slot-read = slot-read-with slot-size two
+slot-read = slot-read-with slot-size (omega arith)
 
 pub record-length : (o : Object) → Allowed o → length (record-bytes o) ≡ record-size o
-record-length = record-length-with slot-size two
+record-length = record-length-with slot-size (omega arith)
 
 pub record-read : (o : Object) (r : List ℕ) → Allowed o → read-record (record-bytes o ++ r) ≡ o
-record-read = record-read-with slot-size two
+record-read = record-read-with slot-size (omega arith)
 
 pub unpack-pack : (os : List Object) → objects-allowed os ≡ true → unpack (pack os) ≡ some os
-unpack-pack = unpack-pack-with slot-size two
+unpack-pack = unpack-pack-with slot-size (omega arith)
 
 pub pack-unpack : (b : List ℕ) (os : List Object) → unpack b ≡ some os → (pack os ≡ b) × (objects-allowed os ≡ true)
-pack-unpack = pack-unpack-with slot-size two
+pack-unpack = pack-unpack-with slot-size (omega arith)

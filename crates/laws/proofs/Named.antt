@@ -1,14 +1,14 @@
 -- The object that a command names, of the session or of the store; and what is seen does not depend on the last error.
 use Prim.Native.Nat.{ℕ}
-use mathlib.Core.Bool.{Bool, true, false, not, false≢true}
+use mathlib.Core.Bool.{true, false, false≢true}
 use mathlib.Core.List.{List, [], _∷_, _++_}
-use mathlib.Core.Option.{Option, none, some}
+use mathlib.Core.Option.{none, some}
 use mathlib.Core.Path.{_≡_, refl, sym, ap, _∙_}
 use native.Mathlib.Omega.{arith}
 use lib.Dec.{eqb}
 use Rattle.mixing.specs.Runs.{All}
 use Rattle.rules.specs.declared.Session.{Session}
-use Rattle.rules.specs.Basic.{if_then_else_, among, first-of}
+use Rattle.rules.specs.Basic.{among, first-of}
 use Rattle.rules.specs.Command.{asks-flush}
 use Rattle.rules.specs.Expression.{Condition, Group, just, _and_, Groups, only, _or_, Expression, always, never, when}
 use Rattle.rules.specs.Object.{Object, in-session, of-session, is, kind-number, object-allowed, all-allowed-with, all-allowed}
@@ -16,7 +16,7 @@ use Rattle.rules.specs.Layout.{objects-allowed, find}
 use Rattle.rules.specs.Session.{with-error, with-state, session-object, session-objects}
 use Rattle.rules.specs.Access.{Seen, seen, named, present, condition-holds, group-holds, groups-hold, holds}
 use Rattle.rules.specs.Step.{flushed}
-use Rattle.laws.proofs.Tests.{and-left, and-right, or-parts}
+use Rattle.laws.proofs.Tests.{if-by, and-left, and-right, or-parts, or-left, or-right}
 use Rattle.laws.proofs.Facts.{Storable, storable, numbers, Allowed, allowed, all-allowed-facts}
 use Rattle.laws.proofs.Places.{Stands, found-stands}
 
@@ -26,11 +26,9 @@ use Rattle.laws.proofs.Places.{Stands, found-stands}
 pub every-found : (P : Object → Type 0) (n : ℕ) (os : List Object) (o : Object) → All P os → find n os ≡ some o → P o
 unfolding find
 every-found P n [] o each e = let z : _≡_ {A = ℕ} 0 1 = cc in absurd (omega arith)
-every-found P n (p ∷ os) o each e = pick (eqb n (p .number)) e (every-found P n os o (each .1))
-  where
-    pick : (t : Bool) → (if t then some p else find n os) ≡ some o → (find n os ≡ some o → P o) → P o
-    pick true e later = let q : p ≡ o = cc in rw q at (each .0)
-    pick false e later = later e
+every-found P n (p ∷ os) o each e =
+    if-by (λ m. m ≡ some o → P o) (eqb n (p .number)) (some p) (find n os)
+    (λ t e. let q : p ≡ o = cc in rw q at (each .0)) (λ t. every-found P n os o (each .1)) e
 
 -- a number that none of them has is not found
 pub absent : (n : ℕ) (os : List Object) → among (numbers os) n ≡ false → find n os ≡ none
@@ -38,46 +36,32 @@ unfolding find among numbers
 absent n [] h = refl
 absent n (p ∷ os) h = let (here, later) = or-parts (eqb n (p .number)) _ h in rw here (absent n os later)
 
-session-numbers : (s : Session) → numbers (session-objects s) ≡ 0xE0C0 ∷ 0xF1C0 ∷ 0xF1C2 ∷ []
-unfolding numbers session-objects session-object
-session-numbers s = refl
-
 -- a number outside the session names an object of the store
 pub named-in-store : (n : ℕ) (see : Seen) → in-session n ≡ false → named n see ≡ see .stored n
-unfolding named in-session
-named-in-store n see h = rw (absent n (session-objects (see .session)) (ap (λ ns. among ns n) (session-numbers (see .session)) ∙ h))
-
-session-kinds : (s : Session) → All (λ (o : Object). of-session (o .kind) ≡ true) (session-objects s)
-unfolding session-objects session-object of-session is kind-number
-session-kinds s = (refl, (refl, (refl, tt)))
+unfolding named in-session numbers session-objects session-object
+named-in-store n see h = rw (absent n (session-objects (see .session)) h)
 
 -- an object that is not of the session's kinds was found in the store
 pub in-store : (n : ℕ) (see : Seen) (o : Object) → of-session (o .kind) ≡ false → named n see ≡ some o → see .stored n ≡ some o
-unfolding named
-in-store n see o k h = by (find n (session-objects (see .session))) refl h
-  where
-    by : (m : Option Object) → find n (session-objects (see .session)) ≡ m → first-of m (see .stored n) ≡ some o → see .stored n ≡ some o
-    by none e h = h
-    by (some p) e h =
-        let q : p ≡ o = cc in
-        let of : of-session (p .kind) ≡ true = every-found _ n (session-objects (see .session)) p (session-kinds (see .session)) e in
-        absurd (false≢true (sym k ∙ ap (λ (x : Object). of-session (x .kind)) (sym q) ∙ of))
+unfolding named session-objects session-object of-session is kind-number
+in-store n see o k =
+    let of = session-objects (see .session) in
+    elim (find n of) as (λ m. find n of ≡ m → first-of m (see .stored n) ≡ some o → see .stored n ≡ some o) [
+      | none ↦ λ e h. h
+      | some p ↦ λ e h.
+          let q : p ≡ o = cc in
+          absurd (false≢true (sym k ∙ every-found (λ x. of-session (x .kind) ≡ true) n of o (refl, (refl, (refl, tt))) (e ∙ ap some q)))
+    ] refl
 
 -- a number outside the session is none of its three
 outside : (n : ℕ) → in-session n ≡ false → (eqb n 0xE0C0 ≡ false) × (eqb n 0xF1C0 ≡ false) × (eqb n 0xF1C2 ≡ false)
 unfolding in-session among
-outside n h =
-    let a = or-parts (eqb n 0xE0C0) _ h in
-    let b = or-parts (eqb n 0xF1C0) _ (a .1) in
-    let c = or-parts (eqb n 0xF1C2) _ (b .1) in
-    (a .0, b .0, c .0)
+outside n h = (search or-left, search (or-left, or-right), search (or-left, or-right))
 
 -- writing to an object outside the session leaves the session
 pub state-outside : (n state : ℕ) (s : Session) → in-session n ≡ false → with-state n state s ≡ s
 unfolding with-state
-state-outside n state s h =
-    let o = outside n h in
-    rw (o .0, o .1)
+state-outside n state s h = let o = outside n h in rw (o .0, o .1)
 
 pub not-error-object : (n : ℕ) → in-session n ≡ false → eqb n 0xF1C2 ≡ false
 not-error-object n h = outside n h .2
@@ -103,13 +87,9 @@ found-there n os o h e =
     let st = found-stands n os o e in
     let ok = middle-allowed (st .before) o (st .after) (rw (st .split) at (all-allowed-facts os h .each)) in
     let a = allowed o ok in
-    record {
-      stands = st;
-      object-ok = ok;
-      facts = a;
-      outside-session = ap in-session (sym (st .number)) ∙ a .outside-session;
-      storable = storable (o .kind) (o .maximum) (o .content) (a .content);
-    }
+    let outside-session : in-session n ≡ false = rw (st .number) at (a .outside-session) in
+    let storable = storable (o .kind) (o .maximum) (o .content) (a .content) in
+    search
 
 -- what is seen ---------------------------------------------------------------------------------------------------------------
 
@@ -135,19 +115,24 @@ module _ (see other : Seen) (lcsg : see .session .lcsg ≡ other .session .lcsg)
   holds-alike never = refl
   holds-alike (when gs) = groups-alike gs
 
--- a flush changes the last error alone
-pub record Flushed (s t : Session) : Type 0 where
-  pub opened : t .opened ≡ s .opened
-  pub lcsg : t .lcsg ≡ s .lcsg
-  pub lcsa : t .lcsa ≡ s .lcsa
+-- two sessions with all but the last error in common
+pub record SameStates (s x : Session) : Type 0 where
+  pub opened : s .opened ≡ x .opened
+  pub lcsg : s .lcsg ≡ x .lcsg
+  pub lcsa : s .lcsa ≡ x .lcsa
 
-pub flush-keeps : (c : List ℕ) (s : Session) → Flushed s (flushed c s)
-unfolding flushed with-error
-flush-keeps c s = by (asks-flush c)
-  where
-    by : (t : Bool) → Flushed s (if t then with-error 0 s else s)
-    by true = search
-    by false = search
+pub same-states : (s : Session) → SameStates s s
+same-states s = search
+
+-- the last error is none of them
+pub error-aside : (n : ℕ) (s : Session) → SameStates (with-error n s) s
+unfolding with-error
+error-aside n s = search
+
+-- a flush changes the last error alone
+pub flush-keeps : (c : List ℕ) (s : Session) → SameStates (flushed c s) s
+unfolding flushed
+flush-keeps c s = if-by (λ x. SameStates x s) (asks-flush c) (with-error 0 s) s (λ e. error-aside 0 s) (λ e. same-states s)
 
 pub flush-holds : (c : List ℕ) (s : Session) (os : List Object) (lcso : ℕ) (e : Expression) → holds (seen os (flushed c s)) lcso e ≡ holds (seen os s) lcso e
 unfolding seen

@@ -1,6 +1,6 @@
 -- Where an object stands in the store: finding it splits the objects, and replacing it changes its record alone.
-use Prim.Native.Nat.{ℕ, _+_, _≤_, _<_}
-use mathlib.Core.Bool.{Bool, true, false}
+use Prim.Native.Nat.{ℕ, _≤_, _<_}
+use mathlib.Core.Bool.{true}
 use mathlib.Core.List.{List, [], _∷_, _++_, append-assoc}
 use mathlib.Core.Option.{some}
 use mathlib.Core.Path.{_≡_, refl, sym, ap, _∙_}
@@ -8,11 +8,11 @@ use native.Mathlib.Omega.{arith}
 use borrow.Author.Tests.{ltb-true, eqb-true, eq-eqb, ne-eqb}
 use lib.Dec.{eqb, ltb}
 use lib.ListN.{length, length-append}
-use Rattle.rules.specs.Basic.{if_then_else_, rising-from, rising}
+use Rattle.rules.specs.Basic.{rising-from, rising}
 use Rattle.rules.specs.Expression.{slot-size}
 use Rattle.rules.specs.Object.{Object, object-allowed-with, all-allowed-with, all-allowed}
 use Rattle.rules.specs.Layout.{size-with, size, record-bytes-with, record-bytes, pack-with, pack, find, replaced}
-use Rattle.laws.proofs.Tests.{and-left, and-right}
+use Rattle.laws.proofs.Tests.{if-by, and-left, and-right}
 use Rattle.laws.proofs.Facts.{allowed-with, numbers}
 use Rattle.laws.proofs.Inverse.{record-length-with}
 
@@ -54,20 +54,16 @@ pub record Stands (n : ℕ) (os : List Object) (o : Object) : Type 0 where
 pub found-stands : (n : ℕ) (os : List Object) (o : Object) → find n os ≡ some o → Stands n os o
 unfolding find
 found-stands n [] o h = let z : _≡_ {A = ℕ} 0 1 = cc in absurd (omega arith)
-found-stands n (p ∷ os) o h = go (eqb n (p .number)) refl h (found-stands n os o)
-  where
-    go : (t : Bool) → eqb n (p .number) ≡ t → (if t then some p else find n os) ≡ some o → (find n os ≡ some o → Stands n os o) → Stands n (p ∷ os) o
-    go true e h later =
-        let q : p ≡ o = cc in
-        record {
-          before = [];
-          after = os;
-          split = ap (λ x. x ∷ os) q;
-          number = ap (λ (x : Object). x .number) (sym q) ∙ sym (eqb-true n (p .number) e);
-        }
-    go false e h later =
-        let r = later h in
-        record { before = p ∷ r .before; after = r .after; split = ap (λ x. p ∷ x) (r .split); number = r .number }
+found-stands n (p ∷ os) o h =
+    if-by (λ m. m ≡ some o → Stands n (p ∷ os) o) (eqb n (p .number)) (some p) (find n os)
+    (λ t h.
+    let q : p ≡ o = cc in
+    let e = eqb-true n (p .number) t in
+    record { before = []; after = os; split = ap (λ x. x ∷ os) q; number = cc })
+    (λ t h.
+    let r = found-stands n os o h in
+    record { before = p ∷ r .before; after = r .after; split = ap (λ x. p ∷ x) (r .split); number = r .number })
+    h
 
 -- replacing -----------------------------------------------------------------------------------------------------------
 
@@ -80,30 +76,17 @@ replaced-above o k (p ∷ os) l h =
     let rest = replaced-above o (p .number) os (omega arith) (and-right (ltb k (p .number)) (rising-from (p .number) (numbers os)) h) in
     rw (ne-eqb (p .number) (o .number) (λ e. omega arith), rest)
 
--- what rises from k up to o: k is below o, and what follows rises from o
-rising-to : (k : ℕ) (before : List Object) (o : Object) (after : List Object) → rising-from k (numbers (before ++ o ∷ after)) ≡ true →
-    (k < o .number) × (rising-from (o .number) (numbers after) ≡ true)
+-- what rises from k up to o: k is below o
+rising-to : (k : ℕ) (before : List Object) (o : Object) (after : List Object) → rising-from k (numbers (before ++ o ∷ after)) ≡ true → k < o .number
 unfolding rising-from numbers
-rising-to k [] o after h = (
-  ltb-true k (o .number) (and-left (ltb k (o .number)) (rising-from (o .number) (numbers after)) h),
-  and-right (ltb k (o .number)) (rising-from (o .number) (numbers after)) h,
-)
+rising-to k [] o after h = ltb-true k (o .number) (and-left (ltb k (o .number)) _ h)
 rising-to k (p ∷ before) o after h =
-    let rest = rising-from (p .number) (numbers (before ++ o ∷ after)) in
-    let below : k < p .number = ltb-true k (p .number) (and-left (ltb k (p .number)) rest h) in
-    let (l, r) = rising-to (p .number) before o after (and-right (ltb k (p .number)) rest h) in
-    (omega arith, r)
+    omega (arith, ltb-true k (p .number) (and-left (ltb k (p .number)) _ h), rising-to (p .number) before o after (and-right (ltb k (p .number)) _ h))
 
-replaced-from : (k : ℕ) (before : List Object) (o : Object) (after : List Object) (new : Object) → new .number ≡ o .number →
-    rising-from k (numbers (before ++ o ∷ after)) ≡ true → replaced new (before ++ o ∷ after) ≡ before ++ new ∷ after
-unfolding replaced rising-from numbers
-replaced-from k [] o after new e h =
-    rw (eq-eqb (o .number) (new .number) (sym e)) (ap (λ x. new ∷ x) (replaced-above new (o .number) after (omega arith) (rising-to k [] o after h .1)))
-replaced-from k (p ∷ before) o after new e h =
-    let rest = rising-from (p .number) (numbers (before ++ o ∷ after)) in
-    let r = and-right (ltb k (p .number)) rest h in
-    let l : p .number < o .number = rising-to (p .number) before o after r .0 in
-    rw (ne-eqb (p .number) (new .number) (λ q. omega arith)) (ap (λ x. p ∷ x) (replaced-from (p .number) before o after new e r))
+rising-tail : (k : ℕ) (ns : List ℕ) → rising-from k ns ≡ true → rising ns ≡ true
+unfolding rising-from rising
+rising-tail k [] h = refl
+rising-tail k (n ∷ ns) h = and-right (ltb k n) _ h
 
 -- where numbers rise, replacing an object changes it alone
 pub replaced-at : (before : List Object) (o : Object) (after : List Object) (new : Object) → new .number ≡ o .number →
@@ -112,8 +95,8 @@ unfolding rising replaced numbers
 replaced-at [] o after new e h =
     rw (eq-eqb (o .number) (new .number) (sym e)) (ap (λ x. new ∷ x) (replaced-above new (o .number) after (omega arith) h))
 replaced-at (p ∷ before) o after new e h =
-    let l : p .number < o .number = rising-to (p .number) before o after h .0 in
-    rw (ne-eqb (p .number) (new .number) (λ q. omega arith)) (ap (λ x. p ∷ x) (replaced-from (p .number) before o after new e h))
+    let l : p .number < o .number = rising-to (p .number) before o after h in
+    rw (ne-eqb (p .number) (new .number) (λ q. omega arith)) (ap (λ x. p ∷ x) (replaced-at before o after new e (rising-tail (p .number) _ h)))
 
 -- the store's bytes after it
 pub replaced-bytes : (before : List Object) (o : Object) (after : List Object) (new : Object) → new .number ≡ o .number →

@@ -1,6 +1,6 @@
 -- The lines of the command table: what holds of every line holds of a command's line. So a command that is accepted and gets or sets names an object.
 use Prim.Native.Nat.{ℕ, _+_, _≤_}
-use mathlib.Core.Bool.{Bool, true, false, _&&_, _||_, false≢true}
+use mathlib.Core.Bool.{Bool, true, false, _&&_, false≢true}
 use mathlib.Core.List.{List, [], _∷_}
 use mathlib.Core.Path.{_≡_, refl, sym, ap, _∙_}
 use native.Mathlib.Omega.{arith}
@@ -13,10 +13,10 @@ use Rattle.rules.specs.declared.Action.{Action}
 use Rattle.rules.specs.declared.Row.{Row}
 use Rattle.rules.specs.declared.Row.the-variants.{OnObject, OpenApplication, CloseApplication, Unknown}
 use Rattle.rules.specs.declared.Verdict.the-variants.{Accepted}
-use Rattle.rules.specs.Basic.{if_then_else_, among}
+use Rattle.rules.specs.Basic.{among}
 use Rattle.rules.specs.Command.{Line, size-right, anything, table-line, command-table, known-cmd, no-line, line-in, line-of, cmd, param, row, is-unknown, in-length, in-data}
 use Rattle.rules.specs.Refusals.{ill-sized, unknown-cmd, unknown-param, wrong-length, wrong-content, early}
-use Rattle.laws.proofs.Tests.{and-left, or-parts}
+use Rattle.laws.proofs.Tests.{if-by, and-left, or-left, or-right}
 use Rattle.laws.proofs.Verdicts.{early-passed}
 
 -- lines -----------------------------------------------------------------------------------------------------------------
@@ -25,30 +25,24 @@ use Rattle.laws.proofs.Verdicts.{early-passed}
 pub every-line : (P : Line → Type 0) (ls : List Line) (c p : ℕ) → All P ls → P (no-line c p) → P (line-in ls c p)
 unfolding line-in
 every-line P [] c p each nothing = nothing
-every-line P (l ∷ ls) c p each nothing = pick (eqb c (l .cmd) && eqb p (l .param)) (every-line P ls c p (each .1) nothing)
-  where
-    pick : (t : Bool) → P (line-in ls c p) → P (if t then l else line-in ls c p)
-    pick true rest = each .0
-    pick false rest = rest
+every-line P (l ∷ ls) c p each nothing =
+    if-by P (eqb c (l .cmd) && eqb p (l .param)) l (line-in ls c p) (λ t. each .0) (λ t. every-line P ls c p (each .1) nothing)
 
--- a line that is there has the Cmd that is asked for, so this is known
-pub line-known : (ls : List Line) (c p : ℕ) → is-unknown (line-in ls c p .row) ≡ false → (c ≡ line-in ls c p .cmd) × (known-cmd ls c ≡ true)
-unfolding line-in known-cmd no-line table-line
-line-known [] c p h = absurd (false≢true (sym h))
-line-known (l ∷ ls) c p h = pick (eqb c (l .cmd)) (eqb p (l .param)) refl h (line-known ls c p)
-  where
-    pick : (t u : Bool) → eqb c (l .cmd) ≡ t → is-unknown ((if t && u then l else line-in ls c p) .row) ≡ false →
-        (is-unknown (line-in ls c p .row) ≡ false → (c ≡ line-in ls c p .cmd) × (known-cmd ls c ≡ true)) →
-        (c ≡ (if t && u then l else line-in ls c p) .cmd) × (t || known-cmd ls c ≡ true)
-    pick true true e h later = (eqb-true c (l .cmd) e, refl)
-    pick true false e h later = (later h .0, refl)
-    pick false u e h later = later h
+-- it has the Cmd that is asked for
+line-cmd : (ls : List Line) (c p : ℕ) → c ≡ line-in ls c p .cmd
+unfolding line-in no-line table-line
+line-cmd [] c p = refl
+line-cmd (l ∷ ls) c p =
+    if-by (λ x. c ≡ x .cmd) (eqb c (l .cmd) && eqb p (l .param)) l (line-in ls c p)
+    (λ t. eqb-true c (l .cmd) (and-left (eqb c (l .cmd)) _ t)) (λ t. line-cmd ls c p)
 
 -- the rows of objects ------------------------------------------------------------------------------------------------------
 
 -- a line of an action: InData takes in the object, and only later steps judge it
 pub record ObjectLine (l : Line) : Type 0 where
   pub gets-or-sets : among (0x01 ∷ 0x02 ∷ []) (l .cmd) ≡ true
+  pub known : known-cmd command-table (l .cmd) ≡ true
+  pub not-open : eqb (l .cmd) 0x70 ≡ false
   pub takes-object : 2 ≤ l .sizes .least
   pub takes-all : (b : List ℕ) → l .takes b ≡ true
 
@@ -60,8 +54,12 @@ LineOf CloseApplication l = among (0x01 ∷ 0x02 ∷ []) (l .cmd) ≡ false
 LineOf Unknown l = Unit
 
 line-is : (c : List ℕ) → LineOf (row c) (line-of c)
-unfolding row line-of command-table table-line anything among no-line
+unfolding row line-of known-cmd command-table table-line anything among no-line
 line-is c = every-line (λ l. LineOf (l .row) l) command-table (cmd c) (param c) (search arith) tt
+
+cmd-is : (c : List ℕ) → cmd c ≡ line-of c .cmd
+unfolding line-of
+cmd-is c = line-cmd command-table (cmd c) (param c)
 
 -- a command that gets or sets: what the steps 4, 5, 6 and 8 see of it
 pub record OnAnObject (c : List ℕ) : Type 0 where
@@ -75,30 +73,8 @@ pub record OnAnObject (c : List ℕ) : Type 0 where
 pub on-object : (c : List ℕ) (a : Action) → row c ≡ OnObject a → OnAnObject c
 unfolding unknown-cmd unknown-param wrong-content
 on-object c a r =
-    record {
-      reads-or-writes = named;
-      cmd-known = rw (known .1);
-      not-open = neither (cmd c) named;
-      param-known = rw r;
-      content-left = rw (line .takes-all (in-data c));
-      takes-object = line .takes-object;
-    }
-  where
-    line : ObjectLine (line-of c)
-    line = rw r at (line-is c)
-
-    known : (cmd c ≡ line-of c .cmd) × (known-cmd command-table (cmd c) ≡ true)
-    known = unfold line-of row in line-known command-table (cmd c) (param c) (ap is-unknown r)
-
-    named : among (0x01 ∷ 0x02 ∷ []) (cmd c) ≡ true
-    named = ap (among (0x01 ∷ 0x02 ∷ [])) (known .0) ∙ line .gets-or-sets
-
-    neither : (n : ℕ) → among (0x01 ∷ 0x02 ∷ []) n ≡ true → eqb n 0x70 ≡ false
-    neither n h = by (eqb n 0x70) refl
-      where
-        by : (t : Bool) → eqb n 0x70 ≡ t → t ≡ false
-        by true e = absurd (unfold among in false≢true (rw (eqb-true n 0x70 e) at h))
-        by false e = refl
+    let line : ObjectLine (line-of c) = rw r at (line-is c) in
+    search (line, cmd-is c, r, line .known, line .takes-all)
 
 -- a known command whose Cmd is 01 or 02 gets or sets
 pub record Acts (c : List ℕ) : Type 0 where
@@ -108,13 +84,10 @@ pub record Acts (c : List ℕ) : Type 0 where
 pub acts : (c : List ℕ) → among (0x01 ∷ 0x02 ∷ []) (cmd c) ≡ true → is-unknown (row c) ≡ false → Acts c
 acts c n h = by (row c) refl
   where
-    known : cmd c ≡ line-of c .cmd
-    known = unfold line-of row in line-known command-table (cmd c) (param c) h .0
-
     by : (r : Row) → row c ≡ r → Acts c
     by (OnObject a) e = record { action = a; is = e }
-    by OpenApplication e = absurd (false≢true (sym (rw e at (line-is c)) ∙ ap (among (0x01 ∷ 0x02 ∷ [])) (sym known) ∙ n))
-    by CloseApplication e = absurd (false≢true (sym (rw e at (line-is c)) ∙ ap (among (0x01 ∷ 0x02 ∷ [])) (sym known) ∙ n))
+    by OpenApplication e = absurd (false≢true (sym (rw e at (line-is c)) ∙ (rw (cmd-is c) at n)))
+    by CloseApplication e = absurd (false≢true (sym (rw e at (line-is c)) ∙ (rw (cmd-is c) at n)))
     by Unknown e = absurd (false≢true (sym h ∙ ap is-unknown e))
 
 -- how long a command is ------------------------------------------------------------------------------------------------------
@@ -123,10 +96,9 @@ acts c n h = by (row c) refl
 pub sized : (c : List ℕ) → ill-sized c ≡ false → in-length c + 4 ≡ length c
 unfolding ill-sized in-data
 sized c h =
-    let a = or-parts (ltb (length c) 4 || ltb 1557 (length c)) _ h in
-    let b = or-parts (ltb (length c) 4) _ (a .0) in
-    let e = eqb-true (in-length c) (length (drop 4 c)) (not-false _ (a .1)) in
-    omega (arith, ltb-false (length c) 4 (b .0), e, length-drop 4 c)
+    let short : ltb (length c) 4 ≡ false = search (or-left, or-right) in
+    let same : eqb (in-length c) (length (drop 4 c)) ≡ true = search (or-left, or-right, not-false) in
+    omega (arith, ltb-false (length c) 4 short, eqb-true (in-length c) (length (drop 4 c)) same, length-drop 4 c)
 
 -- one that is accepted has what its line asks at least
 pub in-full : (sound : Bool) (c : List ℕ) (s : Session) → early sound c s ≡ Accepted → line-of c .sizes .least + 4 ≤ length c

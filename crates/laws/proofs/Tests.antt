@@ -1,8 +1,9 @@
 -- What a computed test tells.
 use Prim.Native.Nat.{ℕ, zero, suc}
-use mathlib.Core.Bool.{Bool, true, false, _&&_, _||_, false≢true}
+use mathlib.Core.Bool.{Bool, true, false, not, _&&_, _||_, false≢true}
+pub use mathlib.Core.Bool.{and-assoc}
 use mathlib.Core.List.{List, [], _∷_}
-use mathlib.Core.Path.{_≡_, refl, sym}
+use mathlib.Core.Path.{_≡_, refl, sym, ap, _∙_}
 use mathlib.Core.Option.{Option, none, some}
 use native.Mathlib.Omega.{arith}
 use borrow.Author.Tests.{eqb-true, eq-eqb}
@@ -21,18 +22,23 @@ and-right false b h = absurd (false≢true h)
 pub and-both : (a b : Bool) → a ≡ true → b ≡ true → a && b ≡ true
 and-both a b p q = rw (p, q)
 
+pub false-not : (t : Bool) → t ≡ false → not t ≡ true
+false-not t h = rw h
+
 pub or-parts : (a b : Bool) → a || b ≡ false → (a ≡ false) × (b ≡ false)
 or-parts true b h = absurd (false≢true (sym h))
 or-parts false b h = (refl, h)
 
-pub and-assoc : (a b c : Bool) → a && b && c ≡ a && (b && c)
-and-assoc true b c = refl
-and-assoc false b c = refl
+pub or-left : (a b : Bool) → a || b ≡ false → a ≡ false
+or-left a b h = or-parts a b h .0
 
--- what a choice of something or nothing gave
-pub chosen : {A : Type 0} (t : Bool) (x y : A) → (if t then some x else none) ≡ some y → (t ≡ true) × (x ≡ y)
-chosen true x y h = (refl, cc)
-chosen false x y h = let z : _≡_ {A = ℕ} 0 1 = cc in absurd (omega arith)
+pub or-right : (a b : Bool) → a || b ≡ false → b ≡ false
+or-right a b h = or-parts a b h .1
+
+-- what holds of either, as the test says, holds of the one chosen
+pub if-by : {A : Type 0} (P : A → Type 0) (t : Bool) (a b : A) → (t ≡ true → P a) → (t ≡ false → P b) → P (if t then a else b)
+if-by P true a b p q = p refl
+if-by P false a b p q = q refl
 
 pub some-else : {A : Type 0} (m : Option A) (d : A) → is-some m ≡ true → m ≡ some (or-else m d)
 some-else none d h = absurd (false≢true h)
@@ -59,3 +65,13 @@ same-eq (x ∷ xs) (y ∷ ys) h =
     let p = eqb-true x y (and-left (eqb x y) (same xs ys) h) in
     let q = same-eq xs ys (and-right (eqb x y) (same xs ys) h) in
     cc
+
+-- what is read from bytes, where it is allowed and they are its bytes
+pub read-checked : {A : Type 0} (allowed : A → Bool) (bytes : A → List ℕ) (b : List ℕ) (x y : A) →
+    (if allowed x && same (bytes x) b then some x else none) ≡ some y → (bytes y ≡ b) × (allowed y ≡ true)
+read-checked allowed bytes b x y =
+    if-by (λ m. m ≡ some y → (bytes y ≡ b) × (allowed y ≡ true)) (allowed x && same (bytes x) b) (some x) none
+    (λ t h.
+    let e : x ≡ y = cc in
+    (ap bytes (sym e) ∙ same-eq (bytes x) b (and-right (allowed x) _ t), ap allowed (sym e) ∙ and-left (allowed x) _ t))
+    (λ t h. let z : _≡_ {A = ℕ} 0 1 = cc in absurd (omega arith))

@@ -26,6 +26,12 @@ unfolding _refused_or_
 passed true r later h = let z : _≡_ {A = ℕ} 0 1 = cc in absurd (omega arith)
 passed false r later h = (refl, h)
 
+pub passed-now : (t : Bool) (r : Refusal) (later : Verdict) → (t refused r or later) ≡ Accepted → t ≡ false
+passed-now t r later h = passed t r later h .0
+
+pub passed-later : (t : Bool) (r : Refusal) (later : Verdict) → (t refused r or later) ≡ Accepted → later ≡ Accepted
+passed-later t r later h = passed t r later h .1
+
 pub both-accepted : (v w : Verdict) → (v and-then w) ≡ Accepted → (v ≡ Accepted) × (w ≡ Accepted)
 unfolding _and-then_
 both-accepted (Refused r) w h = let z : _≡_ {A = ℕ} 0 1 = cc in absurd (omega arith)
@@ -43,15 +49,7 @@ pub record EarlyPassed (sound : Bool) (c : List ℕ) (s : Session) : Type 0 wher
 
 pub early-passed : (sound : Bool) (c : List ℕ) (s : Session) → early sound c s ≡ Accepted → EarlyPassed sound c s
 unfolding early
-early-passed sound c s h =
-    let p2 = passed _ _ _ h in
-    let p3 = passed _ _ _ (p2 .1) in
-    let p4 = passed _ _ _ (p3 .1) in
-    let p5 = passed _ _ _ (p4 .1) in
-    let p6 = passed _ _ _ (p5 .1) in
-    let p7 = passed _ _ _ (p6 .1) in
-    let p8 = passed _ _ _ (p7 .1) in
-    record { step-2 = p2 .0; step-3 = p3 .0; step-4 = p4 .0; step-5 = p5 .0; step-6 = p6 .0; step-7 = p7 .0; step-8 = p8 .0 }
+early-passed sound c s h = search (passed-now, passed-later) depth 8
 
 pub early-accepts : (sound : Bool) (c : List ℕ) (s : Session) → EarlyPassed sound c s → early sound c s ≡ Accepted
 unfolding early _refused_or_

@@ -10,27 +10,13 @@ use Rattle.rules.specs.declared.Action.{Action}
 use Rattle.rules.specs.declared.Action.the-variants.{GetData, GetMetadata, Write, EraseAndWrite, SetMetadata}
 use Rattle.rules.specs.declared.Refusal.the-variants.{AccessDenied}
 use Rattle.rules.specs.Object.{Object, in-session}
-use Rattle.rules.specs.Session.{with-error}
 use Rattle.rules.specs.Chain.{_refused_or_, _and-then_}
 use Rattle.rules.specs.Access.{Seen, asked, granted}
 use Rattle.rules.specs.Operation.{Operation, setting-session, operation}
 use Rattle.rules.specs.Refusals.{unsound, unusable, early, Ruling, ruling-on, fitting, late}
-use Rattle.laws.proofs.Named.{holds-alike, state-outside, not-error-object}
+use Rattle.laws.proofs.Named.{SameStates, holds-alike, state-outside, not-error-object}
 
 -- two that see the same life cycles -----------------------------------------------------------------------------------------
-
-pub record SameStates (s x : Session) : Type 0 where
-  pub opened : s .opened ≡ x .opened
-  pub lcsg : s .lcsg ≡ x .lcsg
-  pub lcsa : s .lcsa ≡ x .lcsa
-
-pub same-states : (s : Session) → SameStates s s
-same-states s = search
-
--- the last error is none of them
-pub error-aside : (n : ℕ) (s : Session) → SameStates (with-error n s) s
-unfolding with-error
-error-aside n s = search
 
 pub early-alike : (sound : Bool) (c : List ℕ) (s x : Session) → SameStates s x → early sound c s ≡ early sound c x
 unfolding early unsound unusable
@@ -78,3 +64,9 @@ session-left GetMetadata c o see h = refl
 session-left Write c o see h = state-outside (o .number) _ (see .session) h
 session-left EraseAndWrite c o see h = state-outside (o .number) _ (see .session) h
 session-left SetMetadata c o see h = refl
+
+pub ruling-left : (a : Action) (c : List ℕ) (m : Option Object) (see : Seen) → ((o : Object) → m ≡ some o → in-session (o .number) ≡ false) →
+    ruling-on a c m see .does .session ≡ see .session
+unfolding ruling-on setting-session
+ruling-left a c none see h = refl
+ruling-left a c (some o) see h = session-left a c o see (h o refl)
