@@ -1,8 +1,8 @@
 -- Expressions judged byte by byte, as the loop of `holds` does, what that says of the rules' expressions, and those in slots.
-use Prim.Native.Nat.{ℕ, _+_, _-_, _*_, _%_, _≤_, _<_}
+use Prim.Native.Nat.{ℕ, _+_, _-_, _%_, _≤_, _<_}
 use mathlib.Core.Path.{_≡_, refl, sym, ap, _∙_}
 use mathlib.Core.Bool.{Bool, true, false, _&&_, _||_}
-use mathlib.Core.List.{List, [], _∷_, _++_}
+use mathlib.Core.List.{List, [], _∷_, _++_, append-nil}
 use native.Mathlib.Omega.{arith}
 use lib.Dec.{eqb, ltb}
 use lib.ListN.{length, getD, drop}
@@ -13,18 +13,18 @@ use Rattle.rules.specs.declared.Action.the-variants.{GetMetadata, SetMetadata}
 use Rattle.rules.specs.declared.Slot.{Slot}
 use Rattle.rules.specs.declared.Slot.the-variants.{Change}
 use Rattle.rules.specs.Basic.{if_then_else_, is-some}
-use Rattle.rules.specs.Expression.{Group, just, _and_, Groups, only, _or_, Expression, always, never, when}
-use Rattle.rules.specs.Expression.{condition-bytes, group-bytes, groups-bytes, expression-bytes, conditions}
+use Rattle.rules.specs.Expression.{Condition, Group, just, _and_, Groups, only, _or_, Expression, always, never, when}
+use Rattle.rules.specs.Expression.{condition-bytes, group-bytes, groups-bytes, expression-bytes}
 use Rattle.rules.specs.Expression.{read-expression, expression}
 use Rattle.rules.specs.Access.{Seen, seen, seen-in, present, condition-holds, group-holds, groups-hold, holds, asked, granted}
-use Rattle.rules.specs.Object.{Object, expression-in}
+use Rattle.rules.specs.Object.{expression-in}
 use Rattle.laws.proofs.Named.{holds-alike}
 use Rattle.record.proofs.Standing.{stored-kind}
-use Rattle.laws.proofs.Expressions.{groups-length, groups-two, expression-read, read-bytes}
+use Rattle.laws.proofs.Expressions.{groups-length, groups-two, read-bytes}
 use Rattle.record.specs.Places.{object-at, Stored}
 use Rattle.record.proofs.Parts.{slot-expression}
 use Rattle.expression.specs.Conditions.{condition-at}
-use Rattle.expression.proofs.Tests.{some-of}
+use Rattle.expression.proofs.Forms.{read-allowed, groups-of}
 use Rattle.expression.proofs.Conditions.{four, three}
 
 -- `condition_holds`; x is the state that the call gave
@@ -64,65 +64,42 @@ module _ (v : Seen) (l : ℕ) (w : Bool) (s : List ℕ) (t : Bool) (i : ℕ) (in
       rest-on t′ h q r = rw (rest-open h, ← p, q, r)
 
 module _ (v : Seen) (l : ℕ) where
-  rest-group : (x : Group) (t : Bool) → rest-holds v l t (group-bytes x) ≡ (t && group-holds v l x)
+  -- a group before b says what its last condition does, f
+  rest-group : (b : List ℕ) (f : Bool → Bool) → ((t : Bool) (c : Condition) → rest-holds v l t (condition-bytes c ++ b) ≡ f (t && condition-holds v l c)) →
+      (x : Group) (t : Bool) → rest-holds v l t (group-bytes x ++ b) ≡ f (t && group-holds v l x)
   unfolding rest-holds group-bytes condition-bytes group-holds
-  rest-group (just c) t = refl
-  rest-group (c and x) t = rest-group x (t && condition-holds v l c) ∙ and-assoc t (condition-holds v l c) (group-holds v l x)
-
-  rest-or : (x : Group) (t : Bool) (b : List ℕ) → rest-holds v l t (group-bytes x ++ 0xFE ∷ b) ≡ (t && group-holds v l x || rest-holds v l true b)
-  unfolding rest-holds group-bytes condition-bytes group-holds
-  rest-or (just c) t b = refl
-  rest-or (c and x) t b =
-      rest-or x (t && condition-holds v l c) b ∙
-      ap (λ y. y || rest-holds v l true b) (and-assoc t (condition-holds v l c) (group-holds v l x))
+  rest-group b f last (just c) t = last t c
+  rest-group b f last (c and x) t =
+      rest-group b f last x (t && condition-holds v l c) ∙ ap f (and-assoc t (condition-holds v l c) (group-holds v l x))
 
   rest-groups : (gs : Groups) → rest-holds v l true (groups-bytes gs) ≡ groups-hold v l gs
-  unfolding groups-bytes groups-hold
-  rest-groups (only x) = rest-group x true
-  rest-groups (x or gs) = rest-or x true (groups-bytes gs) ∙ ap (λ y. group-holds v l x || y) (rest-groups gs)
-
-  holds-when : (e : Expression) → (length (expression-bytes e) ≡ 1 → ⊥) → holds v l e ≡ rest-holds v l true (expression-bytes e)
-  unfolding expression-bytes holds
-  holds-when always n = absurd (n refl)
-  holds-when never n = absurd (n refl)
-  holds-when (when gs) n = sym (rest-groups gs)
+  unfolding rest-holds condition-bytes groups-bytes groups-hold
+  rest-groups (only x) = rw append-nil at (rest-group [] (λ y. y) (λ t c. refl) x true)
+  rest-groups (x or gs) =
+      rest-group (0xFE ∷ groups-bytes gs) (λ y. y || rest-holds v l true (groups-bytes gs)) (λ t c. refl) x true ∙
+      ap (λ y. group-holds v l x || y) (rest-groups gs)
 
   -- the bytes of an expression hold as it does
   pub holds-joined : (s : List ℕ) → is-some (expression s) ≡ true → (length s ≡ 1 → ⊥) → holds v l (read-expression s) ≡ rest-holds v l true s
-  holds-joined s h n =
-      let (e, q) = some-of (expression s) h in
-      let (b, a) = expression-read s e q in
-      rw (← b) (rw (read-bytes e) (holds-when e (λ x. n (ap length (sym b) ∙ x))))
-
-  holds-byte : (x : ℕ) (e : Expression) → expression-bytes e ≡ x ∷ [] → eqb x 0x00 ≡ holds v l e
-  unfolding expression-bytes holds
-  holds-byte x always b = let q : 0x00 ≡ x = cc in rw (← q)
-  holds-byte x never b = let q : 0xFF ≡ x = cc in rw (← q)
-  holds-byte x (when gs) b = absurd (omega (arith, groups-length gs, ap length b))
+  unfolding holds
+  holds-joined s h n = let (gs, q, b) = groups-of s h n in rw q (sym (rest-groups gs) ∙ ap (rest-holds v l true) b)
 
   pub holds-one : (s : List ℕ) → is-some (expression s) ≡ true → length s ≡ 1 → eqb (getD s 0 0) 0x00 ≡ holds v l (read-expression s)
-  holds-one [] h n = absurd (omega arith)
-  holds-one (x ∷ []) h n =
-      let (e, q) = some-of (expression (x ∷ [])) h in
-      let b = expression-read (x ∷ []) e q .0 in
-      holds-byte x e b ∙ ap (holds v l) (sym (read-bytes e) ∙ ap read-expression b)
-  holds-one (x ∷ y ∷ s) h n = absurd (omega arith)
+  unfolding expression-bytes holds
+  holds-one s h n = go (read-expression s) (read-allowed s h .1)
+    where
+      go : (e : Expression) → expression-bytes e ≡ s → eqb (getD s 0 0) 0x00 ≡ holds v l e
+      go always b = rw (← b)
+      go never b = rw (← b)
+      go (when gs) b = absurd (omega (arith, groups-length gs, ap length b))
 
 -- the conditions fill the bytes: three for the last, four for each before it
-count-of : (s : List ℕ) → is-some (expression s) ≡ true → (length s ≡ 1 → ⊥) → (n : ℕ) × (length s + 1 ≡ 4 * n) × (1 ≤ n)
-unfolding expression-bytes
-count-of s h n = let (e, q) = some-of (expression s) h in go e (expression-read s e q .0)
-  where
-    go : (e : Expression) → expression-bytes e ≡ s → (n : ℕ) × (length s + 1 ≡ 4 * n) × (1 ≤ n)
-    go always b = absurd (n (ap length (sym b)))
-    go never b = absurd (n (ap length (sym b)))
-    go (when gs) b = (conditions gs, ap (λ x. length x + 1) (sym b) ∙ groups-length gs, groups-two gs)
+module _ (s : List ℕ) (h : is-some (expression s) ≡ true) (n : length s ≡ 1 → ⊥) where
+  pub one-condition : 0 + 3 ≤ length s
+  one-condition = let (gs, q, b) = groups-of s h n in omega (arith, groups-length gs, groups-two gs, ap length b)
 
-pub one-condition : (s : List ℕ) → is-some (expression s) ≡ true → (length s ≡ 1 → ⊥) → 0 + 3 ≤ length s
-one-condition s h n = let (k, e, m) = count-of s h n in omega arith
-
-pub whole-conditions : (s : List ℕ) → is-some (expression s) ≡ true → (length s ≡ 1 → ⊥) → (length s + 1 - 0) % 4 ≡ 0
-whole-conditions s h n = let (k, e, m) = count-of s h n in omega arith
+  pub whole-conditions : (length s + 1 - 0) % 4 ≡ 0
+  whole-conditions = let (gs, q, b) = groups-of s h n in omega (arith, groups-length gs, ap length b)
 
 -- `slot_holds`; no condition looks at stored objects
 module _ (p : ℕ) (b : List ℕ) (t : Stored p b) (w : Slot) (part : List ℕ) (e : part ≡ expression-bytes (expression-in w (object-at p b))) where
@@ -138,9 +115,6 @@ module _ (p : ℕ) (b : List ℕ) (t : Stored p b) (w : Slot) (part : List ℕ) 
 
 -- `granted`: the expression that each action asks of a stored object
 module _ (p : ℕ) (b : List ℕ) (t : Stored p b) where
-  abbrev o : Object
-  o = object-at p b
-
   pub set-asks : asked SetMetadata (object-at p b) ≡ expression-in Change (object-at p b)
   unfolding asked expression-in
   set-asks = rw (stored-kind p b t)

@@ -2,27 +2,30 @@
 use Prim.Native.Nat.{ℕ, _+_, _-_, _≤_, _<_, max}
 use mathlib.Core.Bool.{true}
 use mathlib.Core.List.{List, [], _∷_, _++_}
-use mathlib.Core.Path.{_≡_, sym, ap, _∙_}
+use mathlib.Core.Path.{_≡_, refl, sym, ap, _∙_}
 use native.Mathlib.Omega.{arith}
-use lib.ListN.{length, take, drop, length-take, length-drop, length-replicate}
+use native.Mathlib.Nat.{add-zero, add-assoc}
+use lib.ListN.{length, take, drop, length-replicate}
 use Rattle.rules.specs.Basic.{zeros, little-endian, is-some}
 use Rattle.rules.specs.declared.Slot.{Slot}
 use Rattle.rules.specs.Expression.{expression, read-expression}
 use Rattle.rules.specs.Object.{Object, used, object-allowed, with-content}
-use Rattle.rules.specs.Layout.{slot-size, head-size, record-size, slot-at, slot-of, slot, record-bytes, slot-of-with}
+use Rattle.rules.specs.Layout.{slot-size, head-size, record-size, slot-at, slot-of, slot, record-bytes}
 use Rattle.rules.specs.Operation.{put-at}
 use Rattle.laws.proofs.Facts.{allowed}
 use Rattle.laws.proofs.Expressions.{expression-length}
+use Rattle.laws.proofs.Puts.{put-used}
 use Rattle.laws.proofs.Inverse.{record-length, slot-length}
 use Rattle.primitives.specs.Bytes.{over}
-use Rattle.primitives.proofs.Over.{over-length}
+use Rattle.primitives.proofs.Over.{put-zeros, over-length}
 use Rattle.record.specs.Places.{object-at, Stored, with-record}
 use Rattle.record.proofs.Standing.{slot-in-head}
 use Rattle.change.specs.Change.{with-lcso, with-expression}
-use Rattle.change.proofs.Inside.{over-inside, lent-over, lent-whole}
+use Rattle.change.proofs.Inside.{over-inside, lent-over}
+use Rattle.change.proofs.Zeros.{padded, put-padded, clear-padded}
 use Rattle.change.proofs.Changed.{stands-allowed, unchanged}
 use Rattle.change.proofs.Rewritten.{Rewritten, left-start, left-object, left-stored, left-erased, left-written}
-use Rattle.change.proofs.Records.{written-record, erased-record, lcso-record, slot-record, read-allowed}
+use Rattle.change.proofs.Records.{data-record, lcso-record, slot-record, read-allowed}
 
 module _ (p : ℕ) (b : List ℕ) (s : Stored p b) where
   ok : object-allowed (object-at p b) ≡ true
@@ -37,14 +40,6 @@ module _ (p : ℕ) (b : List ℕ) (s : Stored p b) where
       let r = record-bytes (object-at p b) in
       let same : b ≡ over p r b = sym (unfold with-record in unchanged p b s) in
       ap (over (p + k) y) same ∙ over-inside p k y r b (omega (arith, s .inside)) (omega (arith, long))
-
-  -- twice
-  put-twice : (k j : ℕ) (y x : List ℕ) → k + length y ≤ record-size (object-at p b) → j + length x ≤ record-size (object-at p b) →
-      over (p + j) x (over (p + k) y b) ≡ over p (over j x (over k y (record-bytes (object-at p b)))) b
-  put-twice k j y x l m =
-      let r = record-bytes (object-at p b) in
-      ap (over (p + j) x) (put-into k y l) ∙
-      over-inside p j x (over k y r) b (omega (arith, s .inside)) (omega (arith, long, over-length k y r (omega (arith, long))))
 
   pub set-lcso-by : (st : ℕ) (r : List ℕ) → r ≡ over (p + 10) (st ∷ []) b → r ≡ with-record p (with-lcso st (object-at p b)) b
   unfolding with-record
@@ -65,42 +60,42 @@ module _ (p : ℕ) (b : List ℕ) (s : Stored p b) where
       set-expression-by r e =
           let (a, q) = read-allowed v h in
           let x = read-expression v in
-          let z : slot-of v ≡ slot x = unfold slot-of-with in ap slot-of (sym q) in
-          e ∙ (λ i. over (p + ek i) (z i) b) ∙
-          put-into (slot-at t) (slot x) (omega (arith, slot-length x a, slot-in-head t)) ∙
-          ap (λ y. over p y b) (slot-record t x (object-at p b) ok a)
+          let into = put-into (slot-at t) (slot x) (omega (arith, slot-length x a, slot-in-head t)) in
+          rw (e, ek, ← slot-record (object-at p b) ok t x a, ← into, q)
 
-  -- the data part ends at e
+  -- the count of used bytes is put, then bytes into the data part
+  counted-length : (v : ℕ) → length (over (p + 8) (little-endian v) b) ≡ length b
+  counted-length v = over-length (p + 8) (little-endian v) b (omega (arith, s .inside))
+
+  data-by : (v k : ℕ) (src new : List ℕ) → v ≡ length new → k + length src ≤ object-at p b .maximum →
+      over k src (padded (object-at p b .maximum) (object-at p b .content)) ≡ padded (object-at p b .maximum) new →
+      over (p + head-size + k) src (over (p + 8) (little-endian v) b) ≡ with-record p (with-content new (object-at p b)) b
+  unfolding with-record
+  data-by v k src new c h e =
+      let x = over 8 (little-endian v) (record-bytes (object-at p b)) in
+      let n : length x ≡ record-size (object-at p b) = over-length 8 (little-endian v) (record-bytes (object-at p b)) (omega (arith, long)) ∙ long in
+      let inside = over-inside p (head-size + k) src x b (omega (arith, s .inside)) (omega arith) in
+      rw (add-assoc p head-size k, put-into 8 (little-endian v) (omega arith), inside, c, data-record (object-at p b) ok k src new e)
+
+  -- the data part, which ends at e, was lent
   module _ (e : ℕ) (end : e ≡ p + head-size + object-at p b .maximum) where
-    -- with another count of used bytes the store is as long
-    used-length : (v : ℕ) → length (over (p + 8) (little-endian v) b) ≡ length b
-    used-length v = over-length (p + 8) (little-endian v) b (omega (arith, s .inside))
-
     pub write-by : (k u v : ℕ) (src b1 d : List ℕ) → k + length src ≤ object-at p b .maximum → u ≡ used (object-at p b) → v ≡ max u (k + length src) →
         b1 ≡ over (p + 8) (little-endian v) b → d ≡ over k src (take (e - (p + head-size)) (drop (p + head-size) b1)) →
         take (p + head-size) b1 ++ (d ++ drop (e - (p + head-size)) (drop (p + head-size) b1)) ≡
         with-record p (with-content (put-at k src (object-at p b .content)) (object-at p b)) b
-    unfolding with-record
     write-by k u v src b1 d h eu ev e1 ed =
-        let n : length b1 ≡ length b = ap length e1 ∙ used-length v in
-        let q : p + head-size + k ≡ p + (head-size + k) = omega arith in
-        lent-over (p + head-size) k (e - (p + head-size)) src d b1 (omega (arith, s .inside)) (omega arith) ed ∙
-        (λ i. over (q i) src (e1 i)) ∙ put-twice 8 (head-size + k) (little-endian v) src (omega arith) (omega arith) ∙
-        ap (λ x. over p x b) (written-record (object-at p b) ok k v src h (ev ∙ ap (λ x. max x (k + length src)) eu))
+        let o = object-at p b in
+        let c : v ≡ length (put-at k src (o .content)) = omega (arith, put-used k src (o .content)) in
+        lent-over (p + head-size) k (e - (p + head-size)) src d b1 (omega (arith, s .inside, ap length e1, counted-length v)) (omega arith) ed ∙
+        ap (over (p + head-size + k) src) e1 ∙ data-by v k src _ c h (put-padded k (o .maximum) src (o .content) h (s .used-fits))
 
     pub erase-by : (b1 d : List ℕ) → b1 ≡ over (p + 8) (little-endian 0) b → d ≡ zeros (length (take (e - (p + head-size)) (drop (p + head-size) b1))) →
         take (p + head-size) b1 ++ (d ++ drop (e - (p + head-size)) (drop (p + head-size) b1)) ≡ with-record p (with-content [] (object-at p b)) b
-    unfolding with-record
     erase-by b1 d e1 ed =
         let m = object-at p b .maximum in
-        let n : length b1 ≡ length b = ap length e1 ∙ used-length 0 in
-        let l : length (take (e - (p + head-size)) (drop (p + head-size) b1)) ≡ m = simp (length-take, length-drop) (omega (arith, s .inside)) in
-        let z : d ≡ zeros m = ed ∙ ap zeros l in
-        let k : length (zeros m) ≡ m = length-replicate m 0 in
-        let k′ : length d ≡ e - (p + head-size) = omega (arith, ap length z) in
-        lent-whole (p + head-size) (e - (p + head-size)) d b1 k′ ∙
-        (λ i. over (p + head-size) (z i) (e1 i)) ∙ put-twice 8 head-size (little-endian 0) (zeros m) (omega arith) (omega arith) ∙
-        ap (λ x. over p x b) (erased-record (object-at p b) ok)
+        let put = data-by 0 0 (zeros m) [] refl (simp length-replicate (omega arith)) (clear-padded m (object-at p b .content) (s .used-fits)) in
+        rw end (put-zeros b1 d (p + head-size) m (omega (arith, s .inside, ap length e1, counted-length 0)) (rw end at ed) ∙
+        ap (over (p + head-size) (zeros m)) e1 ∙ (rw add-zero at put))
 
   -- a write to the store b1 where all data was zeroed
   module _ (b1 : List ℕ) (e : b1 ≡ with-record p (with-content [] (object-at p b)) b) where

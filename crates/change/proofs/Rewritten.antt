@@ -1,22 +1,27 @@
 -- What several changes at one place leave, one after the other: laws for callers, each from what a function ensures.
 use Prim.Native.Nat.{ℕ, _+_, _≤_}
 use mathlib.Core.Bool.{true}
-use mathlib.Core.List.{List, []}
-use mathlib.Core.Path.{_≡_, refl, sym, ap, _∙_}
+use mathlib.Core.List.{List, [], _++_}
+use mathlib.Core.Path.{_≡_, refl, sym, _∙_}
 use native.Mathlib.Omega.{arith}
-use lib.ListN.{length}
+use lib.ListN.{length, take, drop}
+use lib.Seq.{drop-at, length-take-le}
 use Rattle.laws.proofs.Facts.{allowed}
+use Rattle.laws.proofs.Fitting.{Fitting, content-fits}
+use Rattle.laws.proofs.Inverse.{record-length}
+use Rattle.laws.proofs.Puts.{put-used}
 use Rattle.rules.specs.Basic.{is-some}
 use Rattle.rules.specs.declared.Slot.{Slot}
 use Rattle.rules.specs.Expression.{is-state, expression, read-expression}
 use Rattle.rules.specs.Object.{Object, object-allowed, with-content}
+use Rattle.rules.specs.Layout.{record-size, record-bytes}
 use Rattle.rules.specs.Operation.{put-at}
+use Rattle.primitives.specs.Bytes.{over}
+use Rattle.primitives.proofs.Over.{over-part, over-length}
 use Rattle.record.specs.Places.{object-at, Stored, with-record}
+use Rattle.record.proofs.Standing.{object-here, stands-here, stored-facts}
 use Rattle.change.specs.Change.{with-lcso, with-expression}
-use Rattle.change.proofs.Changed.{stands-allowed, unchanged, changed-length, changed-object, changed-stored, changed-twice}
-use Rattle.change.proofs.Changed.{content-number, content-maximum, content-allowed, written-allowed}
-use Rattle.change.proofs.Changed.{lcso-number, lcso-maximum, lcso-allowed}
-use Rattle.change.proofs.Changed.{expression-number, expression-maximum, with-expression-allowed}
+use Rattle.change.proofs.Changed.{stands-allowed, unchanged, lcso-fits, expression-fits}
 use Rattle.change.proofs.Records.{read-allowed}
 
 -- the changes have left b1: the store b with the record of o at p, an allowed object of the number and maximum that stood there
@@ -32,44 +37,53 @@ pub left-start : (p : ℕ) (b : List ℕ) → Stored p b → Rewritten p b (obje
 left-start p b s = record { stood = s; allowed = stands-allowed p b s; number = refl; maximum = refl; bytes = sym (unchanged p b s) }
 
 module _ (p : ℕ) (b : List ℕ) (o : Object) (b1 : List ℕ) (l : Rewritten p b o b1) where
+  long : length (record-bytes o) ≡ record-size o
+  long = record-length o (allowed o (l .allowed))
+
+  before : length (take p b) ≡ p
+  before = length-take-le p b (omega (arith, l .stood .inside))
+
+  here : drop p b1 ≡ record-bytes o ++ drop (p + length (record-bytes o)) b
+  unfolding with-record over
+  here = rw (l .bytes) (drop-at (take p b) _ p before)
+
   pub left-length : length b1 ≡ length b
-  left-length = ap length (l .bytes) ∙ changed-length p b (l .stood) o (l .allowed) (l .maximum)
+  unfolding with-record
+  left-length = rw (l .bytes) (over-length p (record-bytes o) b (omega (arith, l .stood .inside, l .maximum, long)))
 
   pub left-object : object-at p b1 ≡ o
-  left-object = ap (object-at p) (l .bytes) ∙ changed-object p b (l .stood) o (l .allowed) (l .maximum)
+  left-object = object-here p b1 o _ (l .allowed) here
 
   pub left-stored : Stored p b1
-  left-stored = rw (l .bytes) (changed-stored p b (l .stood) o (l .allowed) (l .maximum))
+  left-stored = stored-facts p b1 (stands-here p b1 o _ (l .allowed) here)
 
   -- one change more, f, of the object that stands there
-  pub left-then : (f : Object → Object) (b2 : List ℕ) → object-allowed (f o) ≡ true → f o .number ≡ o .number → f o .maximum ≡ o .maximum →
-      b2 ≡ with-record p (f (object-at p b1)) b1 → Rewritten p b (f o) b2
-  left-then f b2 ok n m e =
+  left-then : (f : Object → Object) (b2 : List ℕ) → Fitting o (f o) → b2 ≡ with-record p (f (object-at p b1)) b1 → Rewritten p b (f o) b2
+  unfolding with-record over
+  left-then f b2 g e =
+      let same : length (record-bytes o) ≡ length (record-bytes (f o)) = omega (arith, long, g .maximum, record-length (f o) (allowed (f o) (g .allowed))) in
       record {
         stood = l .stood;
-        allowed = ok;
-        number = n ∙ l .number;
-        maximum = m ∙ l .maximum;
-        bytes =
-            e ∙ (λ i. with-record p (f (left-object i)) (l .bytes i)) ∙
-            changed-twice p b (l .stood) o (l .allowed) (l .maximum) (f o) ok (m ∙ l .maximum);
+        allowed = g .allowed;
+        number = g .number ∙ l .number;
+        maximum = g .maximum ∙ l .maximum;
+        bytes = e ∙ rw (left-object, l .bytes) (over-part (take p b) (record-bytes o) (record-bytes (f o)) _ p before same ∙ rw same);
       }
 
   module _ (b2 : List ℕ) where
     pub left-erased : b2 ≡ with-record p (with-content [] (object-at p b1)) b1 → Rewritten p b (with-content [] o) b2
-    left-erased = left-then (with-content []) b2 (content-allowed o [] (l .allowed) (omega arith)) (content-number o []) (content-maximum o [])
+    left-erased = left-then (with-content []) b2 (content-fits [] o (l .allowed) (omega arith))
 
     pub left-written : (k : ℕ) (src : List ℕ) → k + length src ≤ o .maximum →
-        b2 ≡ with-record p (with-content (put-at k src (object-at p b1 .content)) (object-at p b1)) b1 → Rewritten p b (with-content (put-at k src (o .content)) o) b2
+        b2 ≡ with-record p (with-content (put-at k src (object-at p b1 .content)) (object-at p b1)) b1 →
+        Rewritten p b (with-content (put-at k src (o .content)) o) b2
     left-written k src h =
         left-then (λ x. with-content (put-at k src (x .content)) x) b2
-        (written-allowed o k src (o .content) (l .allowed) (allowed o (l .allowed) .used-fits) h) (content-number o _) (content-maximum o _)
+        (content-fits _ o (l .allowed) (omega (arith, put-used k src (o .content), allowed o (l .allowed) .used-fits)))
 
     pub left-lcso : (n : ℕ) → is-state n ≡ true → b2 ≡ with-record p (with-lcso n (object-at p b1)) b1 → Rewritten p b (with-lcso n o) b2
-    left-lcso n h = left-then (with-lcso n) b2 (lcso-allowed o n (l .allowed) h) (lcso-number o n) (lcso-maximum o n)
+    left-lcso n h = left-then (with-lcso n) b2 (lcso-fits o (l .allowed) n h)
 
     pub left-expression : (t : Slot) (v : List ℕ) → is-some (expression v) ≡ true →
         b2 ≡ with-record p (with-expression t (read-expression v) (object-at p b1)) b1 → Rewritten p b (with-expression t (read-expression v) o) b2
-    left-expression t v h =
-        let e = read-expression v in
-        left-then (with-expression t e) b2 (with-expression-allowed o t e (l .allowed) (read-allowed v h .0)) (expression-number o t e) (expression-maximum o t e)
+    left-expression t v h = left-then (with-expression t (read-expression v)) b2 (expression-fits o (l .allowed) t _ (read-allowed v h .0))

@@ -1,12 +1,12 @@
 -- The parts of a record that are lent: the expression in a slot, and data in use.
 use Prim.Native.Nat.{ℕ, _+_, _-_, _≤_}
 use mathlib.Core.Bool.{true}
-use mathlib.Core.List.{List, _++_, append-assoc}
-use mathlib.Core.Path.{_≡_, sym, ap, _∙_}
+use mathlib.Core.List.{List}
+use mathlib.Core.Path.{_≡_, _∙_}
 use native.Mathlib.Omega.{arith}
 use native.Mathlib.Nat.{add-sub-cancel-left}
-use lib.ListN.{length, getD, take, drop, length-drop, take-append-drop}
-use lib.Seq.{take-at, drop-at, drop-drop, length-take-le}
+use lib.ListN.{length, getD, take, drop, length-drop}
+use lib.Seq.{drop-drop, take-append-le, drop-append-le}
 use Rattle.rules.specs.declared.Slot.{Slot}
 use Rattle.rules.specs.Basic.{is-some}
 use Rattle.rules.specs.Expression.{expression, expression-bytes}
@@ -15,7 +15,7 @@ use Rattle.rules.specs.Layout.{head-size, slot-at}
 use Rattle.laws.proofs.Expressions.{expression-back}
 use Rattle.expression.proofs.Tests.{some-is}
 use Rattle.record.specs.Places.{object-at, Stored}
-use Rattle.record.proofs.Standing.{Slotted, standing, slot-here, data-here, slot-inside, slot-small, slot-value}
+use Rattle.record.proofs.Standing.{Slotted, standing, slot-allowed, slot-here, data-here, slot-inside, slot-small, slot-value}
 
 -- the expression in a slot ----------------------------------------------------------------------------------------------
 
@@ -32,27 +32,15 @@ module _ (p k : ℕ) (b : List ℕ) (w : Slot) (s : Stored p b) (e : k ≡ slot-
 -- the bytes in each slot of a record that stands there are an expression
 pub slot-expression : (p : ℕ) (b : List ℕ) (w : Slot) → Stored p b → is-some (expression (expression-bytes (expression-in w (object-at p b)))) ≡ true
 slot-expression p b w s =
-    let t = standing p b (s .stands) in
     let e = expression-in w (object-at p b) in
-    some-is (expression (expression-bytes e)) e (expression-back e (slot-here p b (object-at p b) _ (t .allowed) (t .here) w .allowed))
+    some-is (expression (expression-bytes e)) e (expression-back e (slot-allowed (object-at p b) (standing p b (s .stands) .allowed) w))
 
 -- data in use ------------------------------------------------------------------------------------------------------------
-
--- n elements from k on, inside the first of two lists
-within : (k n : ℕ) (xs ys : List ℕ) → k + n ≤ length xs → take n (drop k (xs ++ ys)) ≡ take n (drop k xs)
-within k n xs ys h =
-    let f = drop k xs in
-    let a : drop k (xs ++ ys) ≡ f ++ ys =
-    ap (λ x. drop k (x ++ ys)) (sym (take-append-drop k xs)) ∙ ap (drop k) (append-assoc (take k xs) f ys) ∙
-    drop-at (take k xs) (f ++ ys) k (length-take-le k xs (omega arith)) in
-    let m : n ≤ length f = rw length-drop (omega arith) in
-    ap (take n) a ∙ ap (λ x. take n (x ++ ys)) (sym (take-append-drop n f)) ∙ ap (take n) (append-assoc (take n f) (drop n f) ys) ∙
-    take-at (take n f) (drop n f ++ ys) n (length-take-le n f m)
 
 pub data-lent : (p k n : ℕ) (b : List ℕ) → Stored p b → k + n ≤ used (object-at p b) →
     take (p + head-size + k + n - (p + head-size + k)) (drop (p + head-size + k) b) ≡ take n (drop k (object-at p b .content))
 data-lent p k n b s h =
+    let o = object-at p b in
     let t = standing p b (s .stands) in
-    rw (add-sub-cancel-left (p + head-size + k) n)
-    (ap (take n) (sym (drop-drop k (p + head-size) b) ∙ ap (drop k) (data-here p b (object-at p b) _ (t .allowed) (t .here))) ∙
-    within k n (object-at p b .content) _ h)
+    rw (add-sub-cancel-left, ← drop-drop k (p + head-size) b, data-here p b o _ (t .allowed) (t .here), drop-append-le k (o .content) _ (omega arith))
+    (take-append-le n (drop k (o .content)) _ (simp length-drop (omega arith)))

@@ -6,19 +6,18 @@ use mathlib.Core.List.{List, [], _∷_, _++_}
 use mathlib.Core.Bool.{Bool, true, false}
 use mathlib.Core.Option.{none, some}
 use native.Mathlib.Omega.{arith}
-use native.Mathlib.Nat.{zero-add}
 use lib.Dec.{eqb}
-use lib.ListN.{length, drop}
+use lib.ListN.{length, drop, length-append}
 use lib.Seq.{drop-at}
 use Rattle.rules.specs.declared.Found.the-variants.{At, Nothing}
-use Rattle.rules.specs.Basic.{if_then_else_, rising}
+use Rattle.rules.specs.Basic.{if_then_else_}
 use Rattle.rules.specs.Object.{Object, object-allowed, all-allowed, all-allowed-with}
-use Rattle.rules.specs.Layout.{head-size, record-size, size, objects-allowed, record-bytes, pack, unpack, pack-with, size-with}
+use Rattle.rules.specs.Layout.{record-size, record-bytes, pack, unpack, pack-with}
 use Rattle.rules.specs.Layout.{find, replaced, found-behind, found}
-use Rattle.laws.proofs.Facts.{allowed, numbers, all-allowed-facts}
-use Rattle.laws.proofs.Tests.{and-left, and-right, and-both}
+use Rattle.laws.proofs.Facts.{allowed, AllAllowed, all-allowed-facts}
+use Rattle.laws.proofs.Tests.{and-left, and-right}
 use Rattle.laws.proofs.Inverse.{record-length, pack-unpack}
-use Rattle.laws.proofs.Places.{pack-append, pack-length, replaced-bytes}
+use Rattle.laws.proofs.Places.{pack-append, replaced-bytes}
 use Rattle.primitives.specs.Bytes.{over}
 use Rattle.primitives.proofs.Over.{over-part}
 use Rattle.record.specs.Places.{object-at, Stored, with-record}
@@ -45,12 +44,11 @@ record Lies (q n p : ℕ) (os : List Object) : Type 0 where
   after : List Object
   split : os ≡ before ++ object ∷ after
   finds : find n os ≡ some object
-  spot : p ≡ q + size before
-  before-ok : all-allowed before ≡ true
-  object-ok : object-allowed object ≡ true
+  spot : p ≡ q + length (pack before)
+  ok : object-allowed object ≡ true
 
 lies-behind : (q n p : ℕ) (os : List Object) → all-allowed os ≡ true → found-behind q n os ≡ At p → Lies q n p os
-unfolding found-behind find size-with all-allowed-with
+unfolding found-behind find pack-with all-allowed-with
 lies-behind q n p [] k e = let z : _≡_ {A = ℕ} 0 1 = cc in absurd (omega arith)
 lies-behind q n p (o ∷ os) k e = go (eqb n (o .number)) refl e (lies-behind (q + record-size o) n p os (and-right (object-allowed o) (all-allowed os) k))
   where
@@ -59,9 +57,7 @@ lies-behind q n p (o ∷ os) k e = go (eqb n (o .number)) refl e (lies-behind (q
 
     go : (t : Bool) → eqb n (o .number) ≡ t → (if t then At q else found-behind (q + record-size o) n os) ≡ At p →
         (found-behind (q + record-size o) n os ≡ At p → Lies (q + record-size o) n p os) → Lies q n p (o ∷ os)
-    go true t e later =
-        let r : q ≡ p = cc in
-        record { before = []; object = o; after = os; split = refl; finds = rw t; spot = omega arith; before-ok = refl; object-ok = ok }
+    go true t e later = let r : q ≡ p = cc in record { before = []; object = o; after = os; split = refl; finds = rw t; spot = omega arith; ok = ok }
     go false t e later =
         let l = later e in
         record {
@@ -70,44 +66,36 @@ lies-behind q n p (o ∷ os) k e = go (eqb n (o .number)) refl e (lies-behind (q
           after = l .after;
           split = ap (λ x. o ∷ x) (l .split);
           finds = rw t (l .finds);
-          spot = omega (arith, l .spot);
-          before-ok = and-both (object-allowed o) (all-allowed (l .before)) ok (l .before-ok);
-          object-ok = l .object-ok;
+          spot = omega (arith, l .spot, length-append (record-bytes o) (pack (l .before)), record-length o (allowed o ok));
+          ok = l .ok;
         }
 
 module _ (n p : ℕ) (b : List ℕ) (os : List Object) (u : unpack b ≡ some os) (e : found n os ≡ At p) where
-  packed : pack os ≡ b
-  packed = pack-unpack b os u .0
-
-  all-ok : objects-allowed os ≡ true
-  all-ok = pack-unpack b os u .1
+  facts : AllAllowed os
+  facts = all-allowed-facts os (pack-unpack b os u .1)
 
   lies : Lies 0 n p os
   unfolding found
-  lies = lies-behind 0 n p os (all-allowed-facts os all-ok .each) e
+  lies = lies-behind 0 n p os (facts .each) e
 
   laid : b ≡ pack (lies .before) ++ (record-bytes (lies .object) ++ pack (lies .after))
-  laid =
-      sym packed ∙ ap pack (lies .split) ∙ pack-append (lies .before) (lies .object ∷ lies .after) ∙
-      ap (λ x. pack (lies .before) ++ x) (unfold pack-with in refl)
+  unfolding pack-with
+  laid = sym (pack-unpack b os u .0) ∙ ap pack (lies .split) ∙ pack-append (lies .before) (lies .object ∷ lies .after)
 
   place-is : length (pack (lies .before)) ≡ p
-  place-is = pack-length (lies .before) (lies .before-ok) ∙ sym (zero-add (size (lies .before))) ∙ sym (lies .spot)
+  place-is = omega (arith, lies .spot)
 
   here : drop p b ≡ record-bytes (lies .object) ++ pack (lies .after)
   here = ap (drop p) laid ∙ drop-at (pack (lies .before)) (record-bytes (lies .object) ++ pack (lies .after)) p place-is
 
   read-back : object-at p b ≡ lies .object
-  read-back = object-here p b (lies .object) (pack (lies .after)) (lies .object-ok) here
+  read-back = object-here p b (lies .object) (pack (lies .after)) (lies .ok) here
 
   pub finds-it : find n os ≡ some (object-at p b)
   finds-it = lies .finds ∙ ap (λ (x : Object). some x) (sym read-back)
 
   pub stored-there : Stored p b
-  stored-there = stored-facts p b (stands-here p b (lies .object) (pack (lies .after)) (lies .object-ok) here)
-
-  rises : rising (numbers (lies .before ++ lies .object ∷ lies .after)) ≡ true
-  rises = rw (lies .split) at (all-allowed-facts os all-ok .rises)
+  stored-there = stored-facts p b (stands-here p b (lies .object) (pack (lies .after)) (lies .ok) here)
 
   -- another object in its place
   pub recorded-there : (new : Object) → object-allowed new ≡ true → new .number ≡ object-at p b .number → new .maximum ≡ object-at p b .maximum →
@@ -115,9 +103,7 @@ module _ (n p : ℕ) (b : List ℕ) (os : List Object) (u : unpack b ≡ some os
   unfolding with-record
   recorded-there new ok k m =
       let o = lies .object in
-      let m′ : record-size o ≡ record-size new = ap (λ x. head-size + x) (sym (m ∙ ap (λ (x : Object). x .maximum) read-back)) in
-      let k′ : new .number ≡ o .number = k ∙ ap (λ (x : Object). x .number) read-back in
-      ap (over p (record-bytes new)) laid ∙
-      over-part (pack (lies .before)) (record-bytes o) (record-bytes new) (pack (lies .after)) p place-is
-      (record-length o (allowed o (lies .object-ok)) ∙ m′ ∙ sym (record-length new (allowed new ok))) ∙
-      sym (ap (λ x. pack (replaced new x)) (lies .split) ∙ replaced-bytes (lies .before) o (lies .after) new k′ rises)
+      let long = record-length o (allowed o (lies .ok)) in
+      let same : length (record-bytes o) ≡ length (record-bytes new) = omega (arith, rw read-back at m, record-length new (allowed new ok)) in
+      rw (lies .split, replaced-bytes (lies .before) o (lies .after) new (rw read-back at k) (rw (lies .split) at (facts .rises)))
+      (ap (over p (record-bytes new)) laid ∙ over-part (pack (lies .before)) (record-bytes o) (record-bytes new) (pack (lies .after)) p place-is same)

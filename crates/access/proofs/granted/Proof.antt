@@ -1,5 +1,4 @@
 -- `access::granted` meets its contract.
-use mathlib.Core.Path.{refl}
 use Rattle.rules.specs.Access.{asked}
 use Rattle.rules.specs.Object.{expression-in}
 use Rattle.access.proofs.Holding.{free, by-slot, set-asks}
@@ -12,5 +11,5 @@ unfolding asked expression-in
 granted-spec = tie.close (tie.spec
     (λ c κs. search needs) (λ c. search needs) (λ c κs. search needs) (λ c. search needs) (λ c. search needs)
     (λ c κs. search needs) (λ c. search needs) (λ c κs. search needs) (λ c. search needs) (λ c κs. search needs)
-    (λ c. search (by-slot, refl)) (λ c. search free) (λ c. search (by-slot, refl)) (λ c. search (by-slot, refl))
+    (λ c. search by-slot) (λ c. search free) (λ c. search by-slot) (λ c. search by-slot)
     (λ c. search (by-slot, set-asks)))

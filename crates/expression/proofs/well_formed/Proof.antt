@@ -1,13 +1,13 @@
 -- What is left to judge is whether the rest fits in the groups that may still come.
 use borrow.Author.Needs.{needs}
 use Prim.Native.Nat.{_≤_, _-_}
-use mathlib.Core.Path.{_≡_}
+use mathlib.Core.Path.{_≡_, sym}
 use lib.ListN.{length, drop}
 use native.Mathlib.Omega.{arith}
 use Rattle.rules.specs.Basic.{is-some}
 use Rattle.rules.specs.Expression.{expression}
 use Rattle.expression.proofs.Tests.{calls}
-use Rattle.expression.proofs.Forms.{fits, fits-by, fits-on, fits-last, fits-none, same-groups, well-formed-joined, well-formed-long, well-formed-one}
+use Rattle.expression.proofs.Forms.{fits, fits-by, fits-last, fits-none, same-groups, well-formed-joined, well-formed-long, well-formed-one}
 use Rattle.expression.proofs.well_formed.Statement.{statement}
 use Rattle.expression.proofs.well_formed.Tie as tie
 
@@ -23,5 +23,5 @@ well-formed-spec = tie.close (tie.spec
     (λ c. search well-formed-long) (λ c. (omega arith, omega arith, search well-formed-joined)) (λ c. search needs)
     (λ c κs. search needs) (λ c. search (fits-by, calls) depth 12) (λ c. search needs) (λ c. search needs)
     (λ c κs. search needs) (λ c. search (fits-by, calls) depth 12) (λ c. search needs) (λ c. search needs)
-    (λ c. (omega arith, omega arith, search (fits-on, same-groups, calls) depth 12)) (λ c. search needs)
+    (λ c. (omega arith, omega arith, sym (search (fits-by, same-groups, calls) depth 12))) (λ c. search needs)
     (λ c. search fits-none) (λ c κs. search needs) (λ c. search fits-last))

@@ -5,10 +5,9 @@ use mathlib.Core.Path.{_≡_, refl}
 use native.Mathlib.Omega.{arith}
 use lib.ListN.{length, drop, length-take, length-drop}
 use borrow.Author.Needs.{needs}
-use Rattle.rules.specs.Layout.{pack}
+use Rattle.rules.specs.Layout.{pack, pack-with, size-with}
 use Rattle.factory.specs.Table.{entries, place, first}
-use Rattle.factory.proofs.Table.{place-start}
-use Rattle.factory.proofs.Records.{fill-start, fill-turn, fill-length, fill-end}
+use Rattle.factory.proofs.Records.{fill-turn, fill-length, fill-end}
 use Rattle.factory.proofs.fill.Statement.{statement}
 use Rattle.factory.proofs.fill.Tie as tie
 
@@ -20,7 +19,7 @@ abbrev μ-loop : tie.MeasureT-loop
 
 pub fill-spec : {M : Type 1} → statement M
 fill-spec = tie.close (tie.spec
-    Inv-loop μ-loop (λ c. (omega arith, search place-start, refl, search fill-start)) (λ c κs. search needs)
+    Inv-loop μ-loop (λ c. (omega arith, unfold place first size-with in refl, refl, unfold first pack-with in refl)) (λ c κs. search needs)
     (λ c. search needs) (λ c. search needs) (λ c. search needs) (λ c. search needs) (λ c. search needs)
     (λ c κs. (simp (length-take, length-drop) (omega arith), omega arith)) (λ c. search needs) (λ c. search needs)
     (λ c. (omega arith, omega arith, search fill-length, search fill-turn)) (λ c. search needs) (λ c. search fill-end))
