@@ -104,7 +104,7 @@ pub fn act_on_record(asked: Action, command: &[u8], store: &mut [u8], at: usize,
 {
     match asked {
         Action::GetData => show_data(command, store, at, room),
-        Action::GetMetadata => metadata::write_answer(store, at, room),
+        Action::GetMetadata => answer::write_answer(store, at, room),
         Action::Write => {
             let from = command::offset(command);
             change::write(store, at, from, command::sent_data(command));
@@ -116,7 +116,7 @@ pub fn act_on_record(asked: Action, command: &[u8], store: &mut [u8], at: usize,
             response::done(room);
         }
         Action::SetMetadata => {
-            metadata::store_content(store, at, command::sent_metadata(command));
+            content::store_content(store, at, command::sent_metadata(command));
             response::done(room);
         }
     }

@@ -2,16 +2,14 @@
 use Prim.Native.Nat.{ℕ}
 use mathlib.Core.Bool.{Bool, true, false, _&&_}
 use mathlib.Core.List.{List, [], _∷_}
-use mathlib.Core.Path.{_≡_, refl, sym, ap, _∙_}
+use mathlib.Core.Path.{_≡_, refl}
 use lib.Dec.{eqb}
-use Rattle.rules.specs.declared.Action.{Action}
 use Rattle.rules.specs.declared.Row.{Row}
 use Rattle.rules.specs.declared.Row.the-variants.{OnObject, OpenApplication, CloseApplication, Unknown}
-use Rattle.rules.specs.declared.Sizes.{Sizes}
-use Rattle.rules.specs.Basic.{if_then_else_, among, same}
-use Rattle.rules.specs.Command.{Line, anything, identifier, table-line, command-table, known-cmd, no-line, line-in, line-of, cmd, param, row}
+use Rattle.rules.specs.Basic.{if_then_else_, same}
+use Rattle.rules.specs.Command.{Line, anything, identifier, table-line, command-table, no-line, line-in, line-of, cmd, param, row}
 use Rattle.laws.proofs.Rows.{every-line}
-use Rattle.command.specs.Table.{row-in, action-sizes, row-sizes}
+use Rattle.command.specs.Table.{row-in, row-sizes}
 
 pub rows-alike : (ls : List Line) (c p : ℕ) → row-in ls c p ≡ line-in ls c p .row
 unfolding row-in line-in no-line table-line
@@ -25,13 +23,7 @@ rows-alike (l ∷ ls) c p = by (eqb c (l .cmd) && eqb p (l .param)) (rows-alike 
 -- the sizes of a row are those of its line
 pub sizes-alike : (c : List ℕ) → row-sizes (row c) ≡ line-of c .sizes
 unfolding row line-of command-table table-line no-line
-sizes-alike c = every-line (λ l. row-sizes (l .row) ≡ l .sizes) command-table (cmd c) (param c) (search refl) refl
-
-pub sizes-by : (w v : Action) (z : Sizes) → w ≡ v → z ≡ action-sizes v → z ≡ action-sizes w
-sizes-by w v z e f = f ∙ ap action-sizes (sym e)
-
-pub row-sizes-by : (w v : Row) (z : Sizes) → w ≡ v → z ≡ row-sizes v → z ≡ row-sizes w
-row-sizes-by w v z e f = f ∙ ap row-sizes (sym e)
+sizes-alike c = every-line (λ l. row-sizes (l .row) ≡ l .sizes) command-table (cmd c) (param c) (search) refl
 
 -- only an open must send the identifier
 abbrev pub takes : Row → List ℕ → Bool
@@ -42,20 +34,4 @@ takes Unknown b = true
 
 pub takes-alike : (c b : List ℕ) → takes (row c) b ≡ line-of c .takes b
 unfolding row line-of command-table table-line no-line anything
-takes-alike c b = every-line (λ l. takes (l .row) b ≡ l .takes b) command-table (cmd c) (param c) (search refl) refl
-
-pub takes-by : (c b : List ℕ) (v : Row) → row c ≡ v → line-of c .takes b ≡ takes v b
-takes-by c b v e = sym (takes-alike c b) ∙ ap (λ r. takes r b) e
-
--- the four Cmds
-pub known-alike : (n : ℕ) → among (0x01 ∷ 0x02 ∷ 0x70 ∷ 0x71 ∷ []) n ≡ known-cmd command-table n
-unfolding known-cmd command-table table-line among
-known-alike n = by (eqb n 0x01) (eqb n 0x02) refl refl
-  where
-    by : (a b : Bool) → eqb n 0x01 ≡ a → eqb n 0x02 ≡ b → among (0x01 ∷ 0x02 ∷ 0x70 ∷ 0x71 ∷ []) n ≡ known-cmd command-table n
-    by true b e f = rw e
-    by false true e f = rw (e, f)
-    by false false e f = rw (e, f)
-
-pub known-by : (r : Bool) (n : ℕ) → r ≡ among (0x01 ∷ 0x02 ∷ 0x70 ∷ 0x71 ∷ []) n → r ≡ known-cmd command-table n
-known-by r n e = e ∙ known-alike n
+takes-alike c b = every-line (λ l. takes (l .row) b ≡ l .takes b) command-table (cmd c) (param c) (search) refl

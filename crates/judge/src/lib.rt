@@ -128,7 +128,7 @@ fn judge_metadata(command: &[u8], store: &[u8], at: usize, room: usize) -> Verdi
 {
     let content = command::sent_metadata(command);
     let stored = record::lcso_at(store, at);
-    if !metadata::content_allowed(content, stored) {
+    if !content::content_allowed(content, stored) {
         return Verdict::Refused(Refusal::InvalidData);
     }
     command::fitting(Length(0), room)
@@ -152,7 +152,7 @@ fn judge_stored(
     }
     match asked {
         Action::GetData => judge_get(command, record::used_at(store, at), room),
-        Action::GetMetadata => command::fitting(metadata::answer_length(store, at), room),
+        Action::GetMetadata => command::fitting(answer::answer_length(store, at), room),
         Action::Write => judge_write(command, record::maximum_at(store, at), room),
         Action::EraseAndWrite => judge_write(command, record::maximum_at(store, at), room),
         Action::SetMetadata => judge_metadata(command, store, at, room),

@@ -1,11 +1,12 @@
 -- Laws of copies and of bytes put at a place.
-use Prim.Native.Nat.{ℕ, suc, _+_, _-_, _<_, _≤_}
+use Prim.Native.Nat.{ℕ, _+_, _-_, _<_, _≤_}
 use mathlib.Core.Path.{_≡_, sym, ap, _∙_}
-use mathlib.Core.List.{List, [], _∷_, _++_, append-nil, append-assoc}
-use lib.ListN.{length, getD, take, drop, set, length-drop, length-take, length-append, length-replicate, drop-of-length-le, replicate-append-replicate}
-use lib.Seq.{drop-drop, drop-cons, take-length, take-suc, set-at, append-snoc, length-take-le, take-at, drop-at}
+use mathlib.Core.List.{List, _++_, append-nil, append-assoc}
+use lib.ListN.{length, getD, take, drop, set, length-drop, length-take, length-append, length-replicate, take-append-drop, drop-of-length-le}
+use lib.Seq.{drop-drop, take-length, paste-suc, take-at, drop-at}
+use borrow.Author.Fill.{fill-more}
 use native.Mathlib.Omega.{arith}
-use native.Mathlib.Nat.{add-sub-cancel-left}
+use native.Mathlib.Nat.{add-sub-cancel-left, add-assoc, zero-add}
 use native.Mathlib.Numerals.{add-one}
 use Rattle.rules.specs.Basic.{zeros}
 use Rattle.primitives.specs.Bytes.{over}
@@ -13,27 +14,16 @@ use Rattle.primitives.specs.Bytes.{over}
 -- `copy_in`
 pub copy-turn : (d₀ d s : List ℕ) (i : ℕ) → d ≡ take i s ++ drop i d₀ → i < length s → length s ≤ length d₀
     → set d i (getD s i 0) ≡ take (i + 1) s ++ drop (i + 1) d₀
-copy-turn d₀ d s i inv h k =
-    let in-d : i < length d₀ = omega arith in
-    let in-s : length (take i s) ≡ i = length-take-le i s (omega arith) in
-    rw (inv, add-one, drop-cons d₀ i 0, take-suc s i 0)
-    (set-at (take i s) (getD d₀ i 0) (drop (suc i) d₀) (getD s i 0) i in-s ∙ sym (append-snoc (take i s) (getD s i 0) (drop (suc i) d₀)))
+copy-turn d₀ d s i inv h k = rw (inv, add-one) (simp zero-add at (paste-suc d₀ 0 s i 0 (omega arith) h))
 
 pub copy-end : (d₀ d s : List ℕ) (i : ℕ) → d ≡ take i s ++ drop i d₀ → i ≤ length s → length s ≤ i → d ≡ s ++ drop (length s) d₀
 copy-end d₀ d s i inv h k =
     let e : i ≡ length s = omega arith in
-    inv ∙ rw (e, take-length)
+    rw (inv, e, take-length)
 
 -- `clear`
-zeros-more : (i : ℕ) → zeros (suc i) ≡ zeros i ++ (0 ∷ [])
-zeros-more i = ap zeros (sym (add-one i)) ∙ sym (replicate-append-replicate i 1 0)
-
 pub clear-turn : (d₀ d : List ℕ) (i : ℕ) → d ≡ zeros i ++ drop i d₀ → length d ≡ length d₀ → i < length d → set d i 0 ≡ zeros (i + 1) ++ drop (i + 1) d₀
-clear-turn d₀ d i inv n h =
-    let in-d : i < length d₀ = omega arith in
-    rw (inv, add-one, drop-cons d₀ i 0)
-    (set-at (zeros i) (getD d₀ i 0) (drop (suc i) d₀) 0 i (length-replicate i 0) ∙ sym (append-snoc (zeros i) 0 (drop (suc i) d₀)) ∙
-    ap (λ z. z ++ drop (suc i) d₀) (sym (zeros-more i)))
+clear-turn d₀ d i inv n h = let in-d : i < length d₀ = omega arith in rw inv (fill-more i 0 d₀ in-d)
 
 pub clear-end : (d₀ d : List ℕ) (i : ℕ) → d ≡ zeros i ++ drop i d₀ → length d ≡ length d₀ → i ≤ length d → length d ≤ i → d ≡ zeros (length d₀)
 clear-end d₀ d i inv n h k =
@@ -45,9 +35,8 @@ pub put-whole : (xs ys p : List ℕ) (a : ℕ) → p ≡ ys ++ drop (length ys) 
     → take a xs ++ (p ++ drop (a + length ys - a) (drop a xs)) ≡ over a ys xs
 unfolding over
 put-whole xs ys p a e =
-    let none : drop (length ys) (take (length ys) (drop a xs)) ≡ [] =
-    drop-of-length-le (take (length ys) (drop a xs)) {i = length ys} (simp length-take (omega arith)) in
-    rw (e, add-sub-cancel-left a (length ys), none, append-nil, drop-drop)
+    let short : length (take (length ys) (drop a xs)) ≤ length ys = simp length-take (omega arith) in
+    rw (e, add-sub-cancel-left a (length ys), drop-of-length-le, append-nil, drop-drop)
 
 pub put-zeros : (xs p : List ℕ) (a n : ℕ) → a + n ≤ length xs → p ≡ zeros (length (take (a + n - a) (drop a xs)))
     → take a xs ++ (p ++ drop (a + n - a) (drop a xs)) ≡ over a (zeros n) xs
@@ -74,14 +63,8 @@ over-length a ys xs h = simp (length-append, length-take, length-drop) (omega ar
 pub over-over : (a b : ℕ) (x y xs : List ℕ) → a + length x ≡ b → b + length y ≤ length xs → over b y (over a x xs) ≡ over a (x ++ y) xs
 unfolding over
 over-over a b x y xs e h =
-    let front : length (take a xs) ≡ a = length-take-le a xs (omega arith) in
     let rest = drop (a + length x) xs in
-    let n : length (take a xs ++ x) ≡ b = simp length-append (omega arith) in
-    let flat : take a xs ++ (x ++ rest) ≡ (take a xs ++ x) ++ rest = sym (append-assoc (take a xs) x rest) in
-    let m : a + length x + length y ≡ a + length (x ++ y) = simp length-append (omega arith) in
-    let t : take b (take a xs ++ (x ++ rest)) ≡ take a xs ++ x = ap (take b) flat ∙ take-at (take a xs ++ x) rest b n in
-    let d : drop (b + length y) (take a xs ++ (x ++ rest)) ≡ drop (a + length (x ++ y)) xs =
-    sym (drop-drop (length y) b (take a xs ++ (x ++ rest))) ∙ ap (λ z. drop (length y) (drop b z)) flat ∙
-    ap (drop (length y)) (drop-at (take a xs ++ x) rest b n) ∙ drop-drop (length y) (a + length x) xs ∙
-    ap (λ k. drop k xs) m in
-    rw (t, d) (simp append-assoc)
+    let n : length (take a xs ++ x) ≡ b = simp (length-append, length-take) (omega arith) in
+    let m : length (take (length y) rest) ≡ length y = simp (length-take, length-drop) (omega arith) in
+    let put = over-part (take a xs ++ x) (take (length y) rest) y (drop (length y) rest) b n m in
+    simp (append-assoc, length-append, add-assoc) (simp (append-assoc, drop-drop, add-assoc) at (rw take-append-drop at put))

@@ -1,13 +1,13 @@
 -- Bytes that are all zero.
 use Prim.Native.Nat.{ℕ, zero, suc, _+_, _≤_, _<_}
-use mathlib.Core.Path.{_≡_, refl, sym, ap, _∙_}
+use mathlib.Core.Path.{_≡_, refl, _∙_}
 use mathlib.Core.Bool.{Bool, true, _&&_, and-true}
 use mathlib.Core.List.{List}
 use native.Mathlib.Omega.{arith}
 use native.Mathlib.Numerals.{add-one}
 use borrow.Author.Tests.{ne-eqb}
 use lib.Bits.{bitOr, or-add-and, and-le-r}
-use lib.Dec.{eqb}
+use lib.Dec.{eqb, eqb·suc-zero}
 use lib.ListN.{length, getD, drop, length-replicate}
 use lib.Seq.{drop-cons, drop-length}
 use Rattle.rules.specs.Basic.{same, zeros}
@@ -17,24 +17,18 @@ use Rattle.primitives.specs.Bytes.{all-zero}
 -- an or is zero where both are
 or-none : (a b : ℕ) → eqb (bitOr a b) 0 ≡ (eqb a 0 && eqb b 0)
 or-none zero b = refl
-or-none (suc a) b =
-    ne-eqb (bitOr (suc a) b) 0 (λ e. let z : ⊥ = omega (arith, e, or-add-and (suc a) b, and-le-r (suc a) b) in z) ∙
-    rw (ne-eqb (suc a) 0 (λ e. let z : ⊥ = omega (arith, e) in z))
+or-none (suc a) b = ne-eqb (bitOr (suc a) b) 0 (λ e. omega (arith, or-add-and (suc a) b, and-le-r (suc a) b)) ∙ rw (eqb·suc-zero a)
 
 -- the loop of `all_zero` -----------------------------------------------------------------------------------------------
 
 module _ (w : Bool) (s : List ℕ) (all i : ℕ) (inv : w ≡ (eqb all 0 && all-zero (drop i s))) where
   pub zero-on : i < length s → w ≡ (eqb (bitOr all (getD s i 0)) 0 && all-zero (drop (i + 1) s))
   unfolding all-zero same
-  zero-on h =
-      inv ∙ ap (λ x. eqb all 0 && all-zero x) (drop-cons s i 0 h) ∙
-      rw (or-none all (getD s i 0), add-one) (sym (and-assoc (eqb all 0) (eqb (getD s i 0) 0) (all-zero (drop (suc i) s))))
+  zero-on h = rw (inv, drop-cons s i 0, or-none, add-one, and-assoc)
 
   pub zero-end : i ≤ length s → length s ≤ i → eqb all 0 ≡ w
   unfolding all-zero same
-  zero-end h k =
-      let e : i ≡ length s = omega arith in
-      sym (inv ∙ ap (λ n. eqb all 0 && all-zero (drop n s)) e ∙ ap (λ x. eqb all 0 && all-zero x) (drop-length s) ∙ and-true (eqb all 0))
+  zero-end h k = let e : i ≡ length s = omega arith in rw (inv, e, drop-length, and-true)
 
 pub zeros-are : (n : ℕ) → all-zero (zeros n) ≡ true
 unfolding all-zero

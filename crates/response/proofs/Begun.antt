@@ -2,26 +2,18 @@
 use Prim.Native.Nat.{ℕ, _+_, _≤_}
 use mathlib.Core.Path.{_≡_, refl, ap, _∙_}
 use mathlib.Core.List.{List, [], _∷_, _++_, append-assoc}
-use lib.ListN.{length, drop}
+use lib.ListN.{length}
 use native.Mathlib.Omega.{arith}
 use native.Mathlib.Nat.{zero-add}
-use Rattle.rules.specs.Basic.{big-endian, zeros}
-use Rattle.rules.specs.Response.{put-in-front, done-response, refused-response}
+use Rattle.rules.specs.Basic.{big-endian}
+use Rattle.rules.specs.Response.{put-in-front, done-response}
 use Rattle.primitives.specs.Bytes.{over}
-use Rattle.primitives.proofs.Over.{over-over, over-length}
+use Rattle.primitives.proofs.Over.{over-over}
 use Rattle.response.specs.Begun.{begun}
 
-pub front-over : (y xs : List ℕ) → over 0 y xs ≡ put-in-front y xs
+pub front-by : (r y xs : List ℕ) → r ≡ over 0 y xs → r ≡ put-in-front y xs
 unfolding over put-in-front
-front-over y xs = ap (λ k. y ++ drop k xs) (zero-add (length y))
-
-pub refused-by : (r xs : List ℕ) → r ≡ over 0 (0xFF ∷ 0x00 ∷ 0x00 ∷ 0x00 ∷ []) xs → r ≡ put-in-front refused-response xs
-unfolding refused-response
-refused-by r xs e = e ∙ front-over (0xFF ∷ 0x00 ∷ 0x00 ∷ 0x00 ∷ []) xs
-
-pub done-by : (r xs : List ℕ) → r ≡ over 0 (zeros 4) xs → r ≡ put-in-front (done-response []) xs
-unfolding done-response
-done-by r xs e = e ∙ front-over (zeros 4) xs
+front-by r y xs e = rw zero-add at e
 
 module _ (n : ℕ) (xs q : List ℕ) where
   pub begun-head : q ≡ over 0 (0x00 ∷ 0x00 ∷ big-endian n) xs → q ≡ begun n [] xs
@@ -35,13 +27,9 @@ module _ (n : ℕ) (xs q : List ℕ) where
       let k : 0 + length (front ++ x) ≡ at = omega arith in
       f ∙ ap (over at y) e ∙ over-over 0 at (front ++ x) y xs k h ∙ ap (λ z. over 0 z xs) (append-assoc front x y)
 
-  pub begun-length : (x : List ℕ) → q ≡ begun n x xs → 4 + length x ≤ length xs → length q ≡ length xs
-  unfolding begun
-  begun-length x e h = ap length e ∙ over-length 0 ((0x00 ∷ 0x00 ∷ big-endian n) ++ x) xs (omega arith)
-
   pub begun-done : (x : List ℕ) → n ≡ length x → q ≡ begun n x xs → q ≡ put-in-front (done-response x) xs
   unfolding begun done-response
-  begun-done x l e = e ∙ ap (λ k. over 0 ((0x00 ∷ 0x00 ∷ big-endian k) ++ x) xs) l ∙ front-over ((0x00 ∷ 0x00 ∷ big-endian (length x)) ++ x) xs
+  begun-done x l e = front-by q ((0x00 ∷ 0x00 ∷ big-endian (length x)) ++ x) xs (rw l at e)
 
 -- with bytes right behind the head
 pub head-then : (n : ℕ) (xs q r x : List ℕ) → q ≡ over 0 (0x00 ∷ 0x00 ∷ big-endian n) xs → r ≡ over 4 x q → n ≡ length x → 4 + length x ≤ length xs →

@@ -1,4 +1,4 @@
-// The types that every crate shares. specs/ gives each case the number and the values of document 01.
+// The types that every crate shares, and the tags of metadata. specs/ gives each case the number and the values of document 01.
 
 // What the element keeps between commands: application open or closed, LcsG, LcsA, last error.
 pub struct Session {
@@ -79,3 +79,16 @@ pub enum Slot {
     Read,
     Execute,
 }
+
+// The tags of metadata: those of the LcsO, the maximum, the bytes in use, and the expressions for change, read and execute.
+pub const STATE_TAG: u8 = 0xC0;
+
+pub const MAXIMUM_TAG: u8 = 0xC4;
+
+pub const USED_TAG: u8 = 0xC5;
+
+pub const CHANGE_TAG: u8 = 0xD0;
+
+pub const READ_TAG: u8 = 0xD1;
+
+pub const EXECUTE_TAG: u8 = 0xD3;

@@ -1,7 +1,9 @@
 -- `command::size_right` meets its contract.
-use Rattle.command.proofs.Steps.{too-few, not-too-few}
+use borrow.Author.Tests.{lt-leb, le-leb}
+use Rattle.rules.specs.Command.{size-right}
 use Rattle.command.proofs.size_right.Statement.{statement}
 use Rattle.command.proofs.size_right.Tie as tie
 
 pub size-right-spec : {M : Type 1} → statement M
-size-right-spec = tie.close (tie.spec (λ c. search too-few) (λ c. search not-too-few))
+unfolding size-right
+size-right-spec = tie.close (tie.spec (λ c. search lt-leb) (λ c. search le-leb))

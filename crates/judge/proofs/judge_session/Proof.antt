@@ -1,7 +1,6 @@
 -- `judge::judge_session` meets its contract.
 use Rattle.judge.proofs.Judging.{session-by}
 use Rattle.command.proofs.InForm.{parts-there}
-use mathlib.Core.Path.{refl}
 use borrow.Author.Needs.{needs}
 use Rattle.judge.proofs.judge_session.Statement.{statement}
 use Rattle.judge.proofs.judge_session.Tie as tie
@@ -10,5 +9,5 @@ pub judge-session-spec : {M : Type 1} → statement M
 judge-session-spec = tie.close (tie.spec
     (λ c. search needs) (λ c κs. search parts-there) (λ c. search needs) (λ c. search needs)
     (λ c κs. search parts-there) (λ c. search needs) (λ c κs. search parts-there) (λ c. search needs)
-    (λ c. search (session-by, refl)) (λ c. search (session-by, refl)) (λ c. search (session-by, refl))
-    (λ c. search (session-by, refl)) (λ c. search (session-by, refl)))
+    (λ c. search session-by) (λ c. search session-by) (λ c. search session-by)
+    (λ c. search session-by) (λ c. search session-by))

@@ -1,15 +1,20 @@
 -- `judge::judge_stored` meets its contract.
-use Rattle.judge.proofs.Judging.{stored-denied, stored-get, stored-tell, stored-write, stored-erase, stored-set}
+use Rattle.judge.proofs.Judging.{stored-judged, own-by, stored-get, fitting-told, stored-write, then-later}
+use Rattle.rules.specs.Chain.{_and-then_}
+use Rattle.rules.specs.Operation.{operation}
+use Rattle.command.proofs.Tests.{steps-not}
 use Rattle.command.proofs.InForm.{parts-there}
 use borrow.Author.Needs.{needs}
 use Rattle.judge.proofs.judge_stored.Statement.{statement}
 use Rattle.judge.proofs.judge_stored.Tie as tie
 
 pub judge-stored-spec : {M : Type 1} → statement M
+unfolding operation _and-then_
 judge-stored-spec = tie.close (tie.spec
-    (λ c κs. search needs) (λ c. search stored-denied) (λ c. search needs) (λ c κs. search needs)
+    (λ c κs. search needs) (λ c. search (stored-judged, steps-not)) (λ c. search needs) (λ c κs. search needs)
     (λ c κs. search parts-there) (λ c. search needs) (λ c κs. search needs) (λ c κs. search needs) (λ c. search needs)
     (λ c κs. search needs) (λ c κs. search parts-there) (λ c. search needs) (λ c κs. search needs)
     (λ c κs. search parts-there) (λ c. search needs) (λ c κs. (search needs, search parts-there))
-    (λ c. search stored-get) (λ c. search stored-tell) (λ c. search stored-write) (λ c. search stored-erase)
-    (λ c. search stored-set))
+    (λ c. search (stored-judged, steps-not, own-by, stored-get)) (λ c. search (stored-judged, steps-not, own-by, fitting-told))
+    (λ c. search (stored-judged, steps-not, own-by, stored-write)) (λ c. search (stored-judged, steps-not, own-by, stored-write))
+    (λ c. search (stored-judged, steps-not, own-by, then-later)))
