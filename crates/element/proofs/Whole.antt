@@ -1,7 +1,7 @@
 -- From the parts to one command: the ways out of `perform`, `on_object`, `carry_out` and `execute`.
 use Prim.Native.Nat.{ℕ, _+_, _<_, _≤_}
 use mathlib.Core.Path.{_≡_, refl, sym, ap, _∙_}
-use mathlib.Core.Bool.{Bool, true, false, not, false≢true}
+use mathlib.Core.Bool.{Bool, true, false, false≢true}
 use mathlib.Core.List.{List, []}
 use mathlib.Core.Option.{Option, none, some}
 use native.Mathlib.Omega.{arith}
@@ -21,14 +21,14 @@ use Rattle.rules.specs.declared.Row.the-variants.{OnObject, OpenApplication, Cl
 use Rattle.rules.specs.Basic.{is-some, or-else}
 use Rattle.rules.specs.Command.{row, object-number, offset, asked-length, sent-data}
 use Rattle.rules.specs.Response.{code, done-response, refused-response, put-in-front}
-use Rattle.rules.specs.Object.{Object, used, of-session, in-session, object-allowed}
+use Rattle.rules.specs.Object.{Object, used, of-session}
 use Rattle.rules.specs.Layout.{pack, unpack, found}
 use Rattle.rules.specs.Factory.{fresh-session}
 use Rattle.rules.specs.Session.{session-object, with-opened}
 use Rattle.rules.specs.Chain.{_and-then_}
 use Rattle.rules.specs.Access.{Seen, seen, seen-in, named, granted}
 use Rattle.rules.specs.Operation.{operation, setting-session}
-use Rattle.rules.specs.Refusals.{early, Ruling, ruling-on, ruling-of, ruling, late, verdict}
+use Rattle.rules.specs.Refusals.{early, ruling-on, ruling-of, ruling, late, verdict}
 use Rattle.rules.specs.Step.{raised, declined, replacing, performed, answered, judged, flushed, unanswered, step}
 use Rattle.laws.proofs.Tests.{some-else}
 use Rattle.laws.proofs.Facts.{allowed}
@@ -40,8 +40,7 @@ use Rattle.laws.proofs.Puts.{shown-length}
 use Rattle.record.specs.Places.{object-at, Stored}
 use Rattle.record.proofs.Standing.{standing}
 use Rattle.store.proofs.Placing.{recorded-there}
-use Rattle.command.specs.Table.{InFull}
-use Rattle.command.proofs.InForm.{in-form, action-in-full, object-long}
+use Rattle.command.proofs.InForm.{in-form}
 use Rattle.judge.specs.declared.Target.{Target}
 use Rattle.judge.specs.declared.Target.the-variants.{InSession, InStore, Nothing}
 use Rattle.judge.specs.Targets.{target-object, Placed}
@@ -54,9 +53,9 @@ use Rattle.element.specs.Executed.{executed, Executes}
 not-accepted : {r : Refusal} → Refused r ≡ Accepted → ⊥
 not-accepted h = let z : _≡_ {A = ℕ} 0 1 = cc in omega arith
 
--- a verdict that was called
-pub was-accepted : (v w : Verdict) → v ≡ w → v ≡ Accepted → w ≡ Accepted
-was-accepted v w e h = sym e ∙ h
+-- what a value was told to be, of another that it is
+pub told : {A : Type 0} {v w u : A} → v ≡ w → v ≡ u → w ≡ u
+told e h = sym e ∙ h
 
 -- a refusal's number
 pub refused-by : (k : ℕ) (r : Refusal) (s t : Session) → k ≡ code r → t ≡ raised k s → t ≡ raised (code r) s
@@ -105,10 +104,6 @@ module _ (a : Action) (c b : List ℕ) (s : Session) (aim : Target) (t : Placed 
 
   -- the verdict was: accepted
   module _ (room : ℕ) (h : late (ruling-on a c (target-object aim b) (seen-in b s)) room ≡ Accepted) where
-    session-late : (n : ObjectNumber) (k : Kind) (byte : ℕ) → aim ≡ InSession n k byte → LatePassed a c (session-object (n .0) k byte) see room
-    unfolding target-object
-    session-late n k byte e = late-passed a c (session-object (n .0) k byte) see room (rw e at h)
-
     pub session-may : (n : ObjectNumber) (k : Kind) (byte : ℕ) → aim ≡ InSession n k byte → InSessionMay a c room
     unfolding target-object
     session-may n k byte e =
@@ -137,67 +132,43 @@ module _ (a : Action) (c b : List ℕ) (s : Session) (aim : Target) (t : Placed 
 
     module _ (room xs : List ℕ) (h : late (ruling-on a c (target-object aim b) (seen-in b s)) (length room) ≡ Accepted) where
       -- at an object of the session nothing is stored
-      nothing-stored : (n : ObjectNumber) (k : Kind) (byte : ℕ) → aim ≡ InSession n k byte → operation a c (session-object (n .0) k byte) see .stores ≡ none
-      unfolding session-object
-      nothing-stored n k byte e = by (operation a c (session-object (n .0) k byte) see .stores) refl
-        where
-          of : of-session k ≡ true
-          of = rw e at t
-
-          by : (m : Option Object) → operation a c (session-object (n .0) k byte) see .stores ≡ m → m ≡ none
-          by none q = refl
-          by (some new) q =
-              let l = session-late (length room) h n k byte e in
-              absurd (false≢true (sym (operation-outside a c (session-object (n .0) k byte) see new (l .granted) q) ∙ of))
+      nothing-stored : (n : ObjectNumber) (k : Kind) (byte : ℕ) → aim ≡ InSession n k byte → (m : Option Object) →
+          operation a c (session-object (n .0) k byte) see .stores ≡ m → m ≡ none
+      unfolding session-object target-object
+      nothing-stored n k byte e none q = refl
+      nothing-stored n k byte e (some new) q =
+          let of : of-session k ≡ true = rw e at t in
+          let l = late-passed a c (session-object (n .0) k byte) see (length room) (rw e at h) in
+          absurd (false≢true (told (operation-outside a c (session-object (n .0) k byte) see new (l .granted) q) of))
 
       pub session-done : (n : ObjectNumber) (k : Kind) (byte : ℕ) (r : Session) → aim ≡ InSession n k byte → r ≡ session-does a c (n .0) byte s .session →
           xs ≡ put-in-front (done-response (session-does a c (n .0) byte s .answer)) room →
           executed (record { outcome = 0; session = r }) xs b ≡ performed (ruling-on a c (target-object aim b) (seen-in b s) .does) room os
       unfolding performed target-object ruling-on
       session-done n k byte r e er ex =
-          let alike = session-alike a c (n .0) byte (length room) k os s (session-may (length room) h n k byte e) in
-          let stores = nothing-stored n k byte e in
-          rw e
-          (λ i. record {
-            outcome = 0;
-            room = (ex ∙ ap (λ x. put-in-front (done-response x) room) (alike .1)) i;
-            store = (packed ∙ ap (λ m. pack (replacing m os)) (sym stores)) i;
-            session = (er ∙ alike .0) i;
-          })
+          let (sessions, answers) = session-alike a c (n .0) byte (length room) k os s (session-may (length room) h n k byte e) in
+          let stores = nothing-stored n k byte e _ refl in
+          rw (e, er, ex, sessions, answers, stores, ← packed)
+
+      -- what is put at the place of a record is the packing of the changed objects
+      same-store : (p : ℕ) → aim ≡ InStore p → (m : Option Object) → operation a c (object-at p b) see .stores ≡ m → stored-at p m b ≡ pack (replacing m os)
+      unfolding stored-at replacing
+      same-store p e none q = packed
+      same-store p e (some new) q =
+          let there : Stored p b × (found (object-number c) os ≡ found-at.At p) = rw e at t in
+          let ok = standing p b (there .0 .stands) .allowed in
+          let f = operation-fitting a c (object-at p b) see new ok (record-late (length room) h p e .own) q in
+          recorded-there (object-number c) p b os unpacked (there .1) new (f .allowed) (f .number) (f .maximum)
 
       pub record-done : (p : ℕ) (b′ : List ℕ) → aim ≡ InStore p → b′ ≡ stored-at p (record-does a c (object-at p b) .stores) b →
           xs ≡ put-in-front (done-response (record-does a c (object-at p b) .answer)) room →
           executed (record { outcome = 0; session = s }) xs b′ ≡ performed (ruling-on a c (target-object aim b) (seen-in b s) .does) room os
-      unfolding performed target-object ruling-on seen stored-at replacing
+      unfolding performed target-object ruling-on seen
       record-done p b′ e eb ex =
-          rw e
-          (λ i. record {
-            outcome = 0;
-            room = (ex ∙ ap (λ x. put-in-front (done-response x) room) (alike .answer)) i;
-            store = (eb ∙ ap (λ m. stored-at p m b) (alike .stores) ∙ same-store o-stores refl) i;
-            session = sym (session-left a c (object-at p b) see outside) i;
-          })
-        where
-          there : Stored p b × (found (object-number c) os ≡ found-at.At p)
-          there = rw e at t
-
-          ok : object-allowed (object-at p b) ≡ true
-          ok = standing p b (there .0 .stands) .allowed
-
-          outside : in-session (object-at p b .number) ≡ false
-          outside = allowed (object-at p b) ok .outside-session
-
-          alike : Alike (record-does a c (object-at p b)) (operation a c (object-at p b) see)
-          alike = operation-alike a c (object-at p b) (seen [] fresh-session) see
-
-          o-stores : Option Object
-          o-stores = operation a c (object-at p b) see .stores
-
-          same-store : (m : Option Object) → operation a c (object-at p b) see .stores ≡ m → stored-at p m b ≡ pack (replacing m os)
-          same-store none q = packed
-          same-store (some new) q =
-              let f = operation-fitting a c (object-at p b) see new ok (record-late (length room) h p e .own) q in
-              recorded-there (object-number c) p b os unpacked (there .1) new (f .allowed) (f .number) (f .maximum)
+          let there : Stored p b × (found (object-number c) os ≡ found-at.At p) = rw e at t in
+          let outside = allowed (object-at p b) (standing p b (there .0 .stands) .allowed) .outside-session in
+          let alike : Alike (record-does a c (object-at p b)) (operation a c (object-at p b) see) = operation-alike a c (object-at p b) (seen [] fresh-session) see in
+          rw (e, eb, ex, alike .answer, alike .stores, same-store p e _ refl, session-left a c (object-at p b) see outside)
 
 -- `on_object`: the verdict of the steps 9 to 13 decides -----------------------------------------------------------------------------
 
@@ -219,60 +190,36 @@ module _ (c b room : List ℕ) (s : Session) (a : early (is-some (unpack b)) c s
     pub refused-late : (v : Verdict) (k : Refusal) (r : Answer) (xs : List ℕ) → v ≡ late (ruling-on w c (target-object aim b) (seen-in b s)) (length room) →
         v ≡ Refused k → r .outcome ≡ 0 → r .session ≡ raised (code k) s → xs ≡ put-in-front refused-response room → executed r xs b ≡ judged c room b (unpack b) s
     unfolding answered declined
-    refused-late v k r xs e q eo es ex =
-        (λ i. record { outcome = eo i; room = ex i; store = b; session = es i }) ∙
-        judged-by (Refused k) (sym q ∙ e ∙ ap (λ x. late x (length room)) ruling-is)
+    refused-late v k r xs e q eo es ex = rw (eo, es, ex) (judged-by (Refused k) (told q (rw ruling-is at e)))
 
     pub accepted-late : (v : Verdict) (r : Session) (xs b′ : List ℕ) → v ≡ late (ruling-on w c (target-object aim b) (seen-in b s)) (length room) →
         v ≡ Accepted →
         executed (record { outcome = 0; session = r }) xs b′ ≡ performed (ruling-on w c (target-object aim b) (seen-in b s) .does) room (or-else (unpack b) []) →
         executed (record { outcome = 0; session = r }) xs b′ ≡ judged c room b (unpack b) s
     unfolding answered
-    accepted-late v r xs b′ e q f =
-        f ∙ ap (λ (x : Ruling). performed (x .does) room (or-else (unpack b) [])) ruling-is ∙
-        judged-by Accepted (sym q ∙ e ∙ ap (λ x. late x (length room)) ruling-is)
+    accepted-late v r xs b′ e q f = (rw ruling-is at f) ∙ judged-by Accepted (told q (rw ruling-is at e))
 
   -- `carry_out`: a row that names no object
-  module _ (four : 4 ≤ length room) (w : Row) (ew : w ≡ row c) where
-    session-set : (s′ : Session) → ruling (row c) c (seen-in b s) ≡ ruling-of s′ → (r : Answer) (xs : List ℕ) →
-        r .outcome ≡ 0 → r .session ≡ s′ → xs ≡ put-in-front (done-response []) room → executed r xs b ≡ judged c room b (unpack b) s
-    session-set s′ e r xs eo es ex =
-        stands ∙ ap (λ (x : Ruling). performed (x .does) room os′) (sym e) ∙ (unfold answered in judged-by Accepted (accepts ∙ ap (λ x. late x (length room)) (sym e)))
-      where
-        os′ : List Object
-        os′ = or-else (unpack b) []
+  module _ (four : 4 ≤ length room) (w : Row) (ew : w ≡ row c) (r : Answer) (xs : List ℕ) (eo : r .outcome ≡ 0)
+      (ex : xs ≡ put-in-front (done-response []) room) where
+    session-set : (s′ : Session) → ruling (row c) c (seen-in b s) ≡ ruling-of s′ → r .session ≡ s′ → executed r xs b ≡ judged c room b (unpack b) s
+    unfolding answered performed late ruling-of setting-session replacing _and-then_
+    session-set s′ e es =
+        let packed = pack-unpack b (or-else (unpack b) []) (some-else (unpack b) [] accepted-sound) .0 in
+        let stands : executed r xs b ≡ answered Accepted (ruling (row c) c (seen-in b s) .does) room b (or-else (unpack b) []) s = rw (e, packed, eo, ex, es) in
+        stands ∙ judged-by Accepted (rw e (sym (fitting-accepts 0 (length room) four)))
 
-        accepts : Accepted ≡ late (ruling-of s′) (length room)
-        accepts = unfold late ruling-of setting-session _and-then_ in sym (fitting-accepts 0 (length room) four)
-
-        stands : executed r xs b ≡ performed (ruling-of s′ .does) room os′
-        stands =
-            unfold performed ruling-of setting-session replacing in
-            (λ i. record { outcome = eo i; room = ex i; store = sym (pack-unpack b os′ (some-else (unpack b) [] accepted-sound) .0) i; session = es i })
-
-    pub opened-set : (r : Answer) (xs : List ℕ) (s′ : Session) → w ≡ OpenApplication → s′ ≡ with-opened true s → r .outcome ≡ 0 → r .session ≡ s′ →
-        xs ≡ put-in-front (done-response []) room → executed r xs b ≡ judged c room b (unpack b) s
+    pub opened-set : (s′ : Session) → w ≡ OpenApplication → s′ ≡ with-opened true s → r .session ≡ s′ → executed r xs b ≡ judged c room b (unpack b) s
     unfolding ruling seen
-    opened-set r xs s′ e q eo es ex = session-set (with-opened true s) (rw (← ew, e)) r xs eo (es ∙ q) ex
+    opened-set s′ e q es = session-set (with-opened true s) (rw (← ew, e)) (es ∙ q)
 
-    pub closed-set : (r : Answer) (xs : List ℕ) (s′ : Session) → w ≡ CloseApplication → s′ ≡ with-opened false s → r .outcome ≡ 0 → r .session ≡ s′ →
-        xs ≡ put-in-front (done-response []) room → executed r xs b ≡ judged c room b (unpack b) s
+    pub closed-set : (s′ : Session) → w ≡ CloseApplication → s′ ≡ with-opened false s → r .session ≡ s′ → executed r xs b ≡ judged c room b (unpack b) s
     unfolding ruling seen
-    closed-set r xs s′ e q eo es ex = session-set (with-opened false s) (rw (← ew, e)) r xs eo (es ∙ q) ex
+    closed-set s′ e q es = session-set (with-opened false s) (rw (← ew, e)) (es ∙ q)
 
-    pub unknown-set : (r : Answer) (xs : List ℕ) → w ≡ Unknown → r .outcome ≡ 0 → r .session ≡ s →
-        xs ≡ put-in-front (done-response []) room → executed r xs b ≡ judged c room b (unpack b) s
+    pub unknown-set : w ≡ Unknown → r .session ≡ s → executed r xs b ≡ judged c room b (unpack b) s
     unfolding ruling seen
-    unknown-set r xs e eo es ex = session-set s (rw (← ew, e)) r xs eo es ex
-
-  pub acts-on : (w : Row) (v : Action) → w ≡ row c → w ≡ OnObject v → row c ≡ OnObject v
-  acts-on w v ew e = sym ew ∙ e
-
-  pub in-full : (w : Action) → row c ≡ OnObject w → InFull w c
-  in-full w acts = action-in-full (is-some (unpack b)) c s w a acts
-
-  pub object-there : (w : Action) → row c ≡ OnObject w → 6 ≤ length c
-  object-there w acts = object-long (is-some (unpack b)) c s w a acts
+    unknown-set e es = session-set s (rw (← ew, e)) es
 
 -- `execute` ---------------------------------------------------------------------------------------------------------------------------
 
@@ -286,14 +233,10 @@ module _ (c room b : List ℕ) (s : Session) where
     unfolding step
     step-by r xs b′ e = e ∙ ap (judged c room b (unpack b)) ef ∙ sym (rw (le-ltb (length room) 4 four))
 
-    module _ (t : Bool) (et : t ≡ is-some (unpack b)) (v : Verdict) (ev : v ≡ early t c f) where
-      pub early-refused : (k : Refusal) (r : Answer) (xs : List ℕ) → v ≡ Refused k → r .outcome ≡ 0 → r .session ≡ raised (code k) f →
-          xs ≡ put-in-front refused-response room → Executes c room b s r xs b
-      unfolding declined
-      early-refused k r xs q eo es ex = step-by r xs b ((λ i. record { outcome = eo i; room = ex i; store = b; session = es i }) ∙ is-declined)
-        where
-          is-declined : declined k room b f ≡ judged c room b (unpack b) f
-          is-declined = unfold judged verdict answered _and-then_ seen in rw (← et, ← ev, q)
+    pub early-refused : (t : Bool) (v : Verdict) (k : Refusal) (r : Answer) (xs : List ℕ) → t ≡ is-some (unpack b) → v ≡ early t c f → v ≡ Refused k →
+        r .outcome ≡ 0 → r .session ≡ raised (code k) f → xs ≡ put-in-front refused-response room → Executes c room b s r xs b
+    unfolding declined judged verdict answered _and-then_ seen
+    early-refused t v k r xs et ev q eo es ex = step-by r xs b (rw (eo, es, ex, ← et, ← ev, q))
 
   pub early-passes : (f : Session) (t : Bool) (v : Verdict) → t ≡ is-some (unpack b) → v ≡ early t c f → v ≡ Accepted → early (is-some (unpack b)) c f ≡ Accepted
   early-passes f t v et ev q = ap (λ x. early x c f) (sym et) ∙ sym ev ∙ q

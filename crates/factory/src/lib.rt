@@ -3,7 +3,7 @@ use rules::Length;
 use rules::ObjectNumber;
 use rules::Session;
 ghost use mathlib.Core.Path.{_≡_};
-ghost use Prim.Native.Nat.{_+_, _<_, _≤_};
+ghost use Prim.Native.Nat.{_+_, _<_};
 ghost use lib.ListN.{length};
 ghost use Rattle.rules.specs.Layout.{head-size, record-bytes};
 ghost use Rattle.rules.specs.Factory.{entry, made, factory-store};

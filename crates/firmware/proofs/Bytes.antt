@@ -7,26 +7,21 @@ use native.Mathlib.Omega.{arith}
 use borrow.Author.Tests.{ne-eqb}
 use lib.Dec.{eqb}
 use Rattle.rules.specs.declared.Session.{Session}
-use Rattle.rules.specs.Factory.{fresh-session}
 use Rattle.rules.specs.Step.{step}
 use Rattle.element.specs.declared.Answer.{Answer}
 use Rattle.element.specs.Executed.{Executes}
 use Rattle.firmware.specs.declared.HostSession.{HostSession}
+use Rattle.rules.specs.Factory.{fresh-session}
 use Rattle.firmware.specs.Host.{session-of, opened-byte, bytes-of, left, in-bytes, HostExecutes}
 
 -- `opened_byte`
-module _ (was : ℕ) (o : Bool) where
-  pub opened-now : o ≡ true → was ≡ 0 → 1 ≡ opened-byte was o
-  unfolding opened-byte
-  opened-now e z = rw (e, z) refl
+pub open-now : (was r : ℕ) (o : Bool) → o ≡ true → r ≡ max was 1 → r ≡ opened-byte was o
+unfolding opened-byte
+open-now was r o e f = rw e f
 
-  pub open-still : o ≡ true → (was ≡ 0 → ⊥) → was ≡ opened-byte was o
-  unfolding opened-byte
-  open-still e n = rw e (omega arith)
-
-  pub closed : o ≡ false → 0 ≡ opened-byte was o
-  unfolding opened-byte
-  closed e = rw e refl
+pub closed : (was : ℕ) (o : Bool) → o ≡ false → 0 ≡ opened-byte was o
+unfolding opened-byte
+closed was o e = rw e
 
 -- `bytes_of`, `element_fresh_session`
 pub made-of : (was : HostSession) (s : Session) (b : ℕ) → b ≡ opened-byte (was .opened) (s .opened)
@@ -47,13 +42,10 @@ unfolding opened-byte
 told-open b true = ap not (ne-eqb (max b 1) 0 (λ e. absurd (omega arith)))
 told-open b false = refl
 
-max-one : (n : ℕ) → max (suc n) 1 ≡ suc n
-max-one n = omega arith
-
 open-kept : (b : ℕ) → opened-byte b (not (eqb b 0)) ≡ b
 unfolding opened-byte
 open-kept zero = refl
-open-kept (suc n) = rw (ne-eqb (suc n) 0 (λ e. absurd (omega arith))) (max-one n)
+open-kept (suc n) = rw (ne-eqb (suc n) 0 (λ e. absurd (omega arith))) (omega arith)
 
 -- the bytes of a session tell that session
 pub told-again : (was : HostSession) (s : Session) → session-of (bytes-of was s) ≡ s

@@ -1,13 +1,12 @@
 -- What a host in C sees is a call of the library: with the session that its four bytes tell, the demands on `execute` and on `run` are demands on
 -- `element_execute` and `element_run`.
 use Prim.Native.Nat.{ℕ}
-use mathlib.Core.Path.{_≡_, ap, _∙_}
+use mathlib.Core.Path.{_≡_, ap}
 use mathlib.Core.Bool.{true}
 use mathlib.Core.List.{List}
-use Rattle.rules.specs.declared.Session.{Session}
-use Rattle.rules.specs.Step.{After, step}
+use Rattle.rules.specs.Step.{After}
 use Rattle.element.specs.Executed.{Executes}
-use Rattle.runs.specs.Lists.{Lent, Returned, returned, by-rules}
+use Rattle.runs.specs.Lists.{Lent, Returned, returned}
 use Rattle.runs.specs.Demand.{IsRun, library-run}
 use Rattle.firmware.specs.declared.HostSession.{HostSession}
 use Rattle.firmware.specs.Host.{session-of, HostAfter, left, HostExecutes}
@@ -21,9 +20,7 @@ after l = record { outcome = l .outcome; room = l .room; store = l .store; sessi
 pub call-by-rules : (command room store : List ℕ) (b : HostSession) (outcome : ℕ) (room′ store′ : List ℕ) (b′ : HostSession)
     → HostExecutes command room store b (left outcome room′ store′ b′)
     → Executes command room store (session-of b) (record { outcome = outcome; session = session-of b′ }) room′ store′
-call-by-rules command room store b outcome room′ store′ b′ e =
-    let a : After = step command room store (session-of b) in
-    ap after e ∙ ap (λ (s : Session). record { outcome = a .outcome; room = a .room; store = a .store; session = s }) (told-again b (a .session))
+call-by-rules command room store b outcome room′ store′ b′ e = rw told-again at (ap after e)
 
 abbrev given-back : ListLeft → Returned
 given-back l = returned (l .rooms) (l .outcomes) (l .store) (session-of (l .session))
@@ -34,6 +31,5 @@ pub run-by-rules : (l : Lent) (b : HostSession) (outcome : ℕ) (rooms′ outcom
     → (outcome ≡ 0) × IsRun (library-run l (returned rooms′ outcomes′ store′ (session-of b′)))
 unfolding list-in-bytes
 run-by-rules l b outcome rooms′ outcomes′ store′ b′ well e =
-    let a : Returned = by-rules l in
     let f = rw well at e in
-    (ap (λ (x : ListLeft). x .outcome) f, ap given-back f ∙ ap (returned (a .rooms) (a .outcomes) (a .store)) (told-again b (a .session)))
+    (ap (λ (x : ListLeft). x .outcome) f, rw told-again at (ap given-back f))

@@ -1,3 +1,4 @@
 pub mod Bytes
 pub mod Sizes
 pub mod Calls
+pub mod Entries

@@ -2,12 +2,12 @@
 use Prim.Native.Nat.{ℕ, suc, _+_, _-_, _≤_, _<_}
 use mathlib.Core.Path.{_≡_, refl, sym, ap, _∙_}
 use mathlib.Core.Bool.{Bool, true, false, _&&_, not}
-use mathlib.Core.List.{List, [], _∷_, _++_, map, flatMap}
-use native.Mathlib.Nat.{add-zero}
+use mathlib.Core.List.{List, [], _∷_, map, flatMap}
+use native.Mathlib.Nat.{add-zero, add-sub-cancel-left}
 use native.Mathlib.Omega.{arith}
 use lib.ListN.{length, getD, drop, length-drop, length-append, length-replicate}
 use lib.Seq.{drop-drop, getD-drop}
-use borrow.Author.Tests.{lt-ltb, le-leb, lt-leb}
+use borrow.Author.Tests.{lt-ltb, le-ltb, le-leb, lt-leb, not-true, not-false}
 use lib.Dec.{ltb, leb}
 use Rattle.rules.specs.declared.Session.{Session}
 use Rattle.rules.specs.Run.{Turn, Kept}
@@ -16,14 +16,6 @@ use Rattle.runs.specs.Demand.{IsRun, library-run}
 use Rattle.firmware.specs.declared.HostSession.{HostSession}
 use Rattle.firmware.specs.Host.{session-of, bytes-of}
 use Rattle.firmware.specs.Lists.{all-fit, laid-well, list-left, list-in-bytes, HostRuns}
-
-not-true : (t : Bool) → not t ≡ true → t ≡ false
-not-true true e = sym e
-not-true false e = refl
-
-not-false : (t : Bool) → not t ≡ false → t ≡ true
-not-false true e = refl
-not-false false e = sym e
 
 -- `all_fit`
 module _ (sizes : List ℕ) (count i left : ℕ) (w : Bool) (among : i < count) (told : w ≡ all-fit (count - i) (drop i sizes) left) where
@@ -34,12 +26,10 @@ module _ (sizes : List ℕ) (count i left : ℕ) (w : Bool) (among : i < count) 
       rw (one, length-drop, getD-drop i sizes 0 0, add-zero, drop-drop) at told
 
   pub missing : length sizes ≤ i → false ≡ w
-  missing h =
-      let none : length sizes - i ≡ 0 = omega arith in
-      sym (next ∙ rw none refl)
+  missing h = rw (next, le-ltb 0 (length sizes - i) (omega arith))
 
   pub too-large : i < length sizes → left < getD sizes i 0 → false ≡ w
-  too-large h l = sym (next ∙ rw (lt-ltb 0 (length sizes - i) (omega arith), lt-leb (getD sizes i 0) left l) refl)
+  too-large h l = rw (next, lt-ltb 0 (length sizes - i) (omega arith), lt-leb (getD sizes i 0) left l)
 
   pub fitting : i < length sizes → getD sizes i 0 ≤ left → w ≡ all-fit (count - (i + 1)) (drop (i + 1) sizes) (left - getD sizes i 0)
   fitting h l = next ∙ rw (lt-ltb 0 (length sizes - i) (omega arith), le-leb (getD sizes i 0) left l) refl
@@ -75,10 +65,8 @@ sizes-fit : (f : Turn → List ℕ) (ts : List Turn) → all-fit (length ts) (ma
 unfolding all-fit flatMap
 sizes-fit f [] = refl
 sizes-fit f (t ∷ ts) =
-    let l : length (f t ++ flatMap f ts) ≡ length (f t) + length (flatMap f ts) = length-append (f t) (flatMap f ts) in
-    let rest : length (f t ++ flatMap f ts) - length (f t) ≡ length (flatMap f ts) = omega arith in
-    rw (lt-ltb 0 (length (map (λ (t : Turn). length (f t)) (t ∷ ts))) (omega arith), le-leb (length (f t)) (length (f t ++ flatMap f ts)) (omega arith), rest)
-    (sizes-fit f ts)
+    let within : leb (length (f t)) (length (f t) + length (flatMap f ts)) ≡ true = le-leb (length (f t)) (length (f t) + length (flatMap f ts)) (omega arith) in
+    rw (lt-ltb 0 (length (map (λ (t : Turn). length (f t)) (t ∷ ts))) (omega arith), length-append, within, add-sub-cancel-left) (sizes-fit f ts)
 
 pub laid-out-well : (ts : List Turn) (k : Kept) → laid-well (laid-out ts k) ≡ true
 unfolding laid-well

@@ -11,7 +11,7 @@ use mir.Syntax.{Name, Ty, tyRef, tyInt, w8, tyStruct, Tys, tnil, tcons, Sym, Ste
 use mir.Val.{Val, WT, hasTy, vint, vptr, vstruct, Vals, vnil, vcons}
 use mir.Fields.{getV, setV}
 use mathlib.Core.Option.{some as somewhere}
-use base.Logic.{SProp, ent, sep, ex, emp, id⊢, via, fst∗, monoR}
+use base.Logic.{SProp, ent, sep, ex, emp, id⊢, via, fst∗, snd∗, monoR}
 use base.Stored.{Gv}
 use base.Fml.{Lft, Share, GName, Fml, ftrue, fsep, feq, fat, froom, fdies, flft, fobs, fauth, fres, fobor}
 use prog.Memory.{fieldAt}
@@ -31,20 +31,22 @@ use denote.Struct.Laws as LL
 use denote.Struct.Steps.{spelt}
 use denote.Triple.Call.{calls-from}
 use denote.Triple.Walked.{says}
--- passed on: the kit's words that a walk of such an entry uses
-pub use prog.Wp.{Heap, Calls, Loops, WpFn, Env, Spot, noLocal}
-pub use ghost.Atoms.{Atoms, sem}
-pub use contract.Lifetimes.{Lfts, Shares}
-pub use contract.Monad.{Fun, fact}
-pub use types.Kit.{Given, ‵, _$_, _∵_, !, qed, Item, Goal, Post, Soaks, Seq, Step, step, prop, runs, lands, allocs, params′, passes, frees, atRet, mean, raw, _⊛_, some, later, ⋆, nth, put, pop, by, move, drop, use1, split, join, pick, fsplit, fsplit3, fjoin, show, frame, updating, await, done, now as at-once}
-pub use types.Run.{init, no-more, params1, pass1, pass0, free0, Opds, Reads, Walks, Finds, from, stop, hop, fld, load, addr, of-opd, and-then, assigns, land, returns, look, look-raw, store-raw, forget, enter, alloc1, alloc0, free1}
-pub use sound.WpLaws.{FmC, fmOf}
-pub use denote.Ref.{ptr-vals, RefT, MutRef}
-pub use denote.Slice.{slice-vals, sliceTy, sliceVal, ShrSlice, MutSlice, finally}
-pub use denote.Triple.Entry.{Args, onEntry}
-pub use denote.Triple.Spec.{tripleOf, Spec}
-pub use denote.Triple.Statement.{Contract, Triple}
-pub use denote.Triple.Table.{entered, cited}
+use prog.Wp.{Heap, Calls, Loops, WpFn, Closed, Env, Spot, noLocal}
+use prog.Model.{Model}
+use prog.Routine.{Env as Names}
+use contract.Running.{Running, GhostRules, tables, tablesOf, givenOf}
+use ghost.Atoms.{Atoms, sem}
+use contract.Lifetimes.{Lfts}
+use contract.Monad.{fact}
+use types.Kit.{Given, ‵, _$_, _∵_, !, qed, Item, Goal, Post, Soaks, Seq, Step, step, runs, lands, allocs, passes, frees, atRet, raw, _⊛_, some, later, ⋆, nth, put, by, move, drop, use1, split, join, pick, fsplit, fsplit3, fjoin, show, frame, updating, await, done, now as at-once, mean, pop, prop, params′}
+use types.Run.{init, no-more, pass1, Opds, Reads, Walks, Finds, from, stop, hop, fld, load, addr, of-opd, and-then, assigns, land, returns, look, look-raw, store-raw, forget, alloc1, alloc0, free1, enter}
+use sound.WpLaws.{FmC, fmOf}
+use denote.Ref.{ptr-vals, RefT, MutRef}
+use denote.Slice.{slice-vals, sliceTy, sliceVal, ShrSlice, MutSlice, finally}
+use denote.Triple.Entry.{onEntry}
+use denote.Triple.Spec.{tripleOf, Spec}
+use denote.Triple.Statement.{Contract, Triple}
+use denote.Triple.Table.{entered}
 
 -- what is passed beside the session: the token of its lifetime, what it owns, what is bound for it at the exit, and what is said of that
 pub record Beside : Type 1 where
@@ -98,29 +100,27 @@ with-session γ R [] As ls s = (s, ls .1)
 with-session γ R (p ∷ Bs) As ls s = (ls .0, with-session γ R Bs As (ls .1) s)
 
 module _ {M : Type 1} (𝓤 : URA M) (H : Heap 𝓤) (A : Atoms 𝓤) (W : Given 𝓤 H A) where
+  swaps : (P Q R : Fml) → ent 𝓤 (sem 𝓤 H A (fsep P (fsep Q R))) (sem 𝓤 H A (fsep Q (fsep P R)))
+  swaps P Q R =
+      qed W (‵ (fsep P (fsep Q R)) ∷ []) ∵ fsplit ! $ move ! (1 ∷ []) $ fsplit ! $ move ! (2 ∷ 1 ∷ []) $ fjoin ! $ move ! (1 ∷ 0 ∷ []) $ fjoin ! $ done !
+
   -- one of a list taken out of it, and put back
   takes-out : (Bs As : List Fml) (P : Fml) → ent 𝓤 (sem 𝓤 H A (stars (Bs ++ (P ∷ As)))) (sem 𝓤 H A (fsep P (stars (Bs ++ As))))
   takes-out [] As P = id⊢ 𝓤 _
-  takes-out (B ∷ Bs) As P =
-      qed W (‵ (fsep B (stars (Bs ++ (P ∷ As)))) ∷ []) ∵ fsplit ! $ move ! (1 ∷ []) $ use1 W (‵ (fsep P (stars (Bs ++ As)))) (takes-out Bs As P) $ fsplit ! $
-      move ! (2 ∷ 1 ∷ []) $ fjoin ! $ move ! (1 ∷ 0 ∷ []) $ fjoin ! $ done !
+  takes-out (B ∷ Bs) As P = via 𝓤 (sem 𝓤 H A (fsep B (fsep P (stars (Bs ++ As))))) (monoR 𝓤 (sem 𝓤 H A B) (takes-out Bs As P)) (swaps B P (stars (Bs ++ As)))
 
   puts-in : (Bs As : List Fml) (P : Fml) → ent 𝓤 (sem 𝓤 H A (fsep P (stars (Bs ++ As)))) (sem 𝓤 H A (stars (Bs ++ (P ∷ As))))
   puts-in [] As P = id⊢ 𝓤 _
-  puts-in (B ∷ Bs) As P =
-      qed W (‵ (fsep P (fsep B (stars (Bs ++ As)))) ∷ []) ∵ fsplit ! $ move ! (1 ∷ []) $ fsplit ! $ move ! (2 ∷ 1 ∷ []) $ fjoin ! $
-      use1 W (‵ (stars (Bs ++ (P ∷ As)))) (puts-in Bs As P) $ move ! (1 ∷ 0 ∷ []) $ fjoin ! $ done !
+  puts-in (B ∷ Bs) As P = via 𝓤 (sem 𝓤 H A (fsep B (fsep P (stars (Bs ++ As))))) (swaps P B (stars (Bs ++ As))) (monoR 𝓤 (sem 𝓤 H A B) (puts-in Bs As P))
 
   -- what is said of the slices at last, and that the session's place holds s
   renews : (γ : GName) (R : RattleType) (Bs As : List Beside) (ls : Lasts (Bs ++ (value ∷ As))) (s : R .Denot)
       → ent 𝓤 (sem 𝓤 H A (fsep (fres γ (R .coded .code s)) (lasts (Bs ++ (value ∷ As)) ls))) (sem 𝓤 H A (lasts (Bs ++ (spot γ R ∷ As)) (with-session γ R Bs As ls s)))
-  renews γ R [] As ls s =
-      qed W (‵ (fsep (fres γ (R .coded .code s)) (fsep ftrue (lasts As (ls .1)))) ∷ []) ∵ fsplit ! $ move ! (1 ∷ []) $ fsplit ! $ drop ! $ move ! (1 ∷ 0 ∷ []) $ fjoin ! $
-      done !
+  renews γ R [] As ls s = monoR 𝓤 (sem 𝓤 H A (fres γ (R .coded .code s))) (snd∗ 𝓤 (sem 𝓤 H A ftrue) (sem 𝓤 H A (lasts As (ls .1))))
   renews γ R (p ∷ Bs) As ls s =
-      qed W (‵ (fsep (fres γ (R .coded .code s)) (fsep (p .left (ls .0)) (lasts (Bs ++ (value ∷ As)) (ls .1)))) ∷ []) ∵ fsplit ! $ move ! (1 ∷ []) $ fsplit ! $
-      move ! (2 ∷ 1 ∷ []) $ fjoin ! $ use1 W (‵ (lasts (Bs ++ (spot γ R ∷ As)) (with-session γ R Bs As (ls .1) s))) (renews γ R Bs As (ls .1) s) $ move ! (1 ∷ 0 ∷ []) $
-      fjoin ! $ done !
+      let here = fres γ (R .coded .code s) in
+      let others = lasts (Bs ++ (value ∷ As)) (ls .1) in
+      via 𝓤 (sem 𝓤 H A (fsep (p .left (ls .0)) (fsep here others))) (swaps here (p .left (ls .0)) others) (monoR 𝓤 (sem 𝓤 H A (p .left (ls .0))) (renews γ R Bs As (ls .1) s))
 
 -- a session where the host keeps it: its type, the reference to it, and what is passed before and after it
 pub record SessionInPlace : Type 2 where
@@ -278,18 +278,18 @@ module _ {M : Type 1} {𝓤 : URA M} {H : Heap 𝓤} {A : Atoms 𝓤} {K : Type 
       (init t j y-room (tt, (tt, (record { fits = fits }, tt)))) $ p)
 
 -- the core's answer: an outcome in a byte and a session, in this order
-pub record Answering (S : SessionInPlace) : Type 2 where
+pub record Answering (T : Declared) (L : LL.Laws T) : Type 2 where
   pub answer : Declared
   pub its-laws : LL.Laws answer
   pub outcome : answer .D → ℕ
-  pub session : answer .D → S .struct .D
+  pub session : answer .D → T .D
   pub ν : Sym
-  pub mir-is : lone (row answer .mir) ≡ tyStruct ν (tcons (tyInt w8) (tcons (lone (row (S .struct) .mir)) tnil))
-  pub val-is : (r : answer .D) → LL.val answer its-laws r ≡ vstruct (vcons (vint w8 (outcome r)) (vcons (LL.val (S .struct) (S .laws) (session r)) vnil))
+  pub mir-is : lone (row answer .mir) ≡ tyStruct ν (tcons (tyInt w8) (tcons (lone (row T .mir)) tnil))
+  pub val-is : (r : answer .D) → LL.val answer its-laws r ≡ vstruct (vcons (vint w8 (outcome r)) (vcons (LL.val T L (session r)) vnil))
   pub fits : (r : answer .D) → Is (row answer) r (LL.vals answer its-laws r) → outcome r < 2 ^ 8
-  pub low-is : (r : answer .D) → Is (row answer) r (LL.vals answer its-laws r) → Low S (session r)
+  pub low-is : (r : answer .D) → Is (row answer) r (LL.vals answer its-laws r) → Is (row T) (session r) (LL.vals T L (session r))
 
-module _ (S : SessionInPlace) (P : Answering S) where
+module _ (S : SessionInPlace) (P : Answering (S .struct) (S .laws)) where
   abbrev Answered : Ty
   Answered = tyStruct (P .ν) (tcons (tyInt w8) (tcons (lone (row (S .struct) .mir)) tnil))
 
@@ -308,16 +308,28 @@ module _ {M : Type 1} (𝓤 : URA M) (H : Heap 𝓤) (A : Atoms 𝓤) (W : Given
       show ! (λ (k : ℕ). sep 𝓤 (sep 𝓤 (sem 𝓤 H A (AllTokens S)) (sem 𝓤 H A (u8 .own k (vint w8 n ∷ [])))) (ex 𝓤 (λ (us : Lasts-all S). sep 𝓤 (sem 𝓤 H A (lasts-all S us)) (fact 𝓤 (Ψ k us))))) n $
       move ! (1 ∷ 0 ∷ []) $ join ! $ frame ! $ show ! (λ (us : Lasts-all S). sep 𝓤 (sem 𝓤 H A (lasts-all S us)) (fact 𝓤 (Ψ n us))) ws $ says ! promised $ done !
 
-  -- a run meets its contract, from a walk with the parameters' machine values written out and their relations in hand
-  pub meets : (S : Signature) (c : Spec 𝓤 S) (run : Fun 𝓤) (sp : (κs : Lfts (S .lifetimes)) → Spells (typesAt (S .params) κs))
+-- an entry meets its contract, from a walk with the parameters' machine values written out, their relations and the core's contract in hand
+module _ {M : Type 1} (𝓤 : URA M) (H : Heap 𝓤) (𝓜 : Model 𝓤 H) (𝓖 : GhostRules 𝓤 H) (𝓡 : Running 𝓤 H 𝓜) (γ : Names) (S : Signature) (c : Spec 𝓤 S) where
+  pub meets : {core : Contract 𝓤} (g k : Name) (f : Fn) → Closed 𝓤 H (tables 𝓤 H 𝓜 𝓡 γ .C) (tables 𝓤 H 𝓜 𝓡 γ .Λ) k f
+      → Triple 𝓤 (tables 𝓤 H 𝓜 𝓡 γ .C g) core → (sp : (κs : Lfts (S .lifetimes)) → Spells (typesAt (S .params) κs))
       → ((κs : Lfts (S .lifetimes)) → Tellss (typesAt (S .params) κs) (Ises (typesAt (S .params) κs)) (sp κs))
-      → ((y : tripleOf 𝓤 H A S c .Ghost) → Are (typesAt (S .params) (y .0 .0)) (Ises (typesAt (S .params) (y .0 .0))) (y .0 .3) (valss (typesAt (S .params) (y .0 .0)) (sp (y .0 .0)) (y .0 .3))
-      → ent 𝓤 (onEntry 𝓤 H A S (y .0 .0) (y .0 .1) (y .0 .3) (valss (typesAt (S .params) (y .0 .0)) (sp (y .0 .0)) (y .0 .3))) (run (flat (typesAt (S .params) (y .0 .0)) (valss (typesAt (S .params) (y .0 .0)) (sp (y .0 .0)) (y .0 .3))) (tripleOf 𝓤 H A S c .post y)))
-      → Triple 𝓤 run (tripleOf 𝓤 H A S c)
-  meets S c run sp tl walk y = via 𝓤 (onEntry 𝓤 H A S (y .0 .0) (y .0 .1) (y .0 .3) (y .0 .4)) (fst∗ 𝓤 _ (c (y .0 .0) (y .0 .3) .requires (y .1))) (said 𝓤 H A S (y .0 .0) (y .0 .1) (sp (y .0 .0)) (tl (y .0 .0)) (y .0 .3) (λ us. run (flat (typesAt (S .params) (y .0 .0)) us) (tripleOf 𝓤 H A S c .post y)) (y .0 .4) (walk y))
+      → ((W : Given 𝓤 H (𝓖 .A)) (C : Calls 𝓤 H) (Λ : Loops 𝓤 H) → FmC 𝓤 H (W .laws) C → Triple 𝓤 (C g) core → (y : tripleOf 𝓤 H (𝓖 .A) S c .Ghost)
+      → let Ps = typesAt (S .params) (y .0 .0) in let vss = valss Ps (sp (y .0 .0)) (y .0 .3) in
+      Are Ps (Ises Ps) (y .0 .3) vss
+      → ent 𝓤 (onEntry 𝓤 H (𝓖 .A) S (y .0 .0) (y .0 .1) (y .0 .3) vss) (WpFn 𝓤 H C Λ f (flat Ps vss) (tripleOf 𝓤 H (𝓖 .A) S c .post y)))
+      → Triple 𝓤 (𝓡 .run (γ k)) (tripleOf 𝓤 H (𝓖 .A) S c)
+  unfolding tablesOf
+  meets g k f closed known sp tl walk =
+      let W = givenOf 𝓤 H 𝓜 𝓖 in
+      let 𝓣 = tables 𝓤 H 𝓜 𝓡 γ in
+      entered 𝓤 H (tripleOf 𝓤 H (𝓖 .A) S c) (𝓣 .C) (𝓣 .Λ) k f closed (λ y.
+      via 𝓤 (onEntry 𝓤 H (𝓖 .A) S (y .0 .0) (y .0 .1) (y .0 .3) (y .0 .4)) (fst∗ 𝓤 _ (c (y .0 .0) (y .0 .3) .requires (y .1)))
+      (said 𝓤 H (𝓖 .A) S (y .0 .0) (y .0 .1) (sp (y .0 .0)) (tl (y .0 .0)) (y .0 .3)
+      (λ us. WpFn 𝓤 H (𝓣 .C) (𝓣 .Λ) f (flat (typesAt (S .params) (y .0 .0)) us) (tripleOf 𝓤 H (𝓖 .A) S c .post y)) (y .0 .4)
+      (walk W (𝓣 .C) (𝓣 .Λ) (fmOf 𝓤 H (W .laws) (tablesOf 𝓤 H 𝓜 𝓣)) known y)))
 
 -- the locals once the answer has landed, and once its outcome is the result
-module _ {M : Type 1} (𝓤 : URA M) (H : Heap 𝓤) (A : Atoms 𝓤) (S : SessionInPlace) (P : Answering S) (L : List (Item 𝓤)) (d bd : ℕ) where
+module _ {M : Type 1} (𝓤 : URA M) (H : Heap 𝓤) (A : Atoms 𝓤) (S : SessionInPlace) (P : Answering (S .struct) (S .laws)) (L : List (Item 𝓤)) (d bd : ℕ) where
   abbrev landed : P .answer .D → List (Item 𝓤)
   landed r = put 𝓤 H A (d + d) (‵ (fat fullShare (Answered S P) bd 0 (answered S P r))) L
 
@@ -329,7 +341,8 @@ module _ {M : Type 1} (𝓤 : URA M) (H : Heap 𝓤) (A : Atoms 𝓤) (S : Sessi
 module _ {M : Type 1} {𝓤 : URA M} {H : Heap 𝓤} {A : Atoms 𝓤} {K : Type 0} {W : Given 𝓤 H A} {L L′ : List (Item 𝓤)} where
   pub in-place : {E : Env 𝓤 H} {C : Calls 𝓤 H} {Λ : Loops 𝓤 H} {f : Name} {xs : List Opd} {rest : Body} {s w d bw bd b₀ : ℕ} {τs : Ty} {bs : ℕ} {Q : Val → SProp 𝓤} → K
       → FmC 𝓤 H (W .laws) C
-      → (S : SessionInPlace) (P : Answering S) (Ψ : ℕ → Lasts-all S → Type 0) (ℓ : Lifetime) (vs : List Val)
+      → (S : SessionInPlace) (P : Answering (S .struct) (S .laws)) (Ψ : ℕ → Lasts-all S → Type 0) (ℓ : Lifetime) (vs : List Val)
+      → ((v : Val) → ent 𝓤 (Ends 𝓤 H A S Ψ v) (Q v))
       → ent 𝓤 (Asks 𝓤 H A S) (C f vs (Answers 𝓤 H A S (P .answer) (λ r ls. Ψ (P .outcome r) (with-last S ls (P .session r)))))
       → getD E s (noLocal 𝓤 H) ≡ (τs, bs) → nth 𝓤 H A (s + s) L ≡ ‵ (fat fullShare τs bs 0 (vptr (S .ref .ptr .0) (S .ref .ptr .1)))
       → getD E w (noLocal 𝓤 H) ≡ (lone (row (S .struct) .mir), bw) → nth 𝓤 H A (w + w) L ≡ ‵ (froom (lone (row (S .struct) .mir)) bw 0)
@@ -344,9 +357,8 @@ module _ {M : Type 1} {𝓤 : URA M} {H : Heap 𝓤} {A : Atoms 𝓤} {K : Type 
       → getD E 0 (noLocal 𝓤 H) ≡ (tyInt w8, b₀) → ((r : P .answer .D) → nth 𝓤 H A 0 (landed 𝓤 H A S P L′ d bd r) ≡ ‵ (froom (tyInt w8) b₀ 0))
       → ((r : P .answer .D) → nth 𝓤 H A 0 (finished 𝓤 H A S P L′ d bd b₀ r) ≡ ‵ (fat fullShare (tyInt w8) b₀ 0 (vint w8 (P .outcome r))))
       → ((r : P .answer .D) (i j : Item 𝓤) (g : Goal 𝓤 H) → Seq K W (i ∷ j ∷ []) g → Seq K W (i ∷ j ∷ finished 𝓤 H A S P L′ d bd b₀ r) (frees E g))
-      → ((v : Val) → ent 𝓤 (Ends 𝓤 H A S Ψ v) (Q v))
       → Seq K W (‵ (AllTokens S) ∷ ‵ (With S (MutRef ℓ (S .κ) (R S) .own (S .ref) (ptr-vals (S .ref)))) ∷ L) (runs C Λ E (seq (assign (place w []) (rvOpd (copy (place s (deref (lone (row (S .struct) .mir)) ∷ []))))) rest) (atRet E Q))
-  in-place {s = s} {w} {d} t fm S P Ψ ℓ vs known at-s s-is at-w w-room remade operands at-d d-room d-is s-still at-0 room-0 is-0 freed exits =
+  in-place {s = s} {w} {d} t fm S P Ψ ℓ vs exits known at-s s-is at-w w-room remade operands at-d d-room d-is s-still at-0 room-0 is-0 freed =
       opened t tt S ℓ (λ is-h.
       assigns t (of-opd t (load t (finds t at-s (hop t (look t (suc (suc (suc (suc (suc (suc (s + s))))))) s-is) (stop t))) (look-raw t 2 refl))) (finds t at-w (stop t)) (init t (suc (suc (suc (suc (suc (suc (w + w))))))) w-room (typed _ is-h)) $
       remade (called t fm S (P .answer) (P .its-laws) (answered S P) (P .val-is) (λ r ls. Ψ (P .outcome r) (with-last S ls (P .session r))) vs known is-h operands (λ r ls promised is.

@@ -12,7 +12,7 @@ use Rattle.rules.specs.declared.Found.{Found}
 use Rattle.rules.specs.declared.Found.the-variants as found-at
 use Rattle.rules.specs.Basic.{among, is-some, or-else}
 use Rattle.rules.specs.Command.{object-number}
-use Rattle.rules.specs.Object.{in-session, is}
+use Rattle.rules.specs.Object.{in-session}
 use Rattle.rules.specs.Layout.{unpack, find, found}
 use Rattle.rules.specs.Session.{session-object, session-objects}
 use Rattle.rules.specs.Access.{seen, seen-in, named}

@@ -1,6 +1,6 @@
 -- From answers to lines, and from lines to what is printed.
 use Prim.Native.Nat.{ℕ, zero, suc, _+_, _-_, _*_, _≤_, _<_, min}
-use mathlib.Core.Path.{_≡_, refl, sym, ap, _∙_}
+use mathlib.Core.Path.{_≡_, refl, ap, _∙_}
 use mathlib.Core.Bool.{Bool, true, false}
 use mathlib.Core.List.{List, [], _∷_, _++_}
 use native.Mathlib.Omega.{arith}
@@ -25,36 +25,25 @@ use Rattle.listing.proofs.Texts.{Onward, put-next, onward, onward-last,
 
 -- the outcome is one digit ------------------------------------------------------------------------------------------------------
 
-answered-small : (v : Verdict) (p : Operation) (room store : List ℕ) (os : List Object) (s : Session) → answered v p room store os s .outcome < 16
-unfolding answered declined performed
-answered-small (Refused r) p room store os s = omega arith
-answered-small Accepted p room store os s = omega arith
-
-either-small : (t : Bool) (a b : After) → a .outcome < 16 → b .outcome < 16 → (if t then a else b) .outcome < 16
-either-small true a b h k = h
-either-small false a b h k = k
-
-step-small : (c room store : List ℕ) (s : Session) → step c room store s .outcome < 16
-unfolding step judged unanswered
-step-small c room store s = either-small (ltb (length room) 4) _ _ (omega arith) (answered-small _ _ room store _ _)
-
-pub outcome-small : (n : ℕ) (room′ store′ : List ℕ) (s′ : Session) (c room store : List ℕ) (s : Session) →
-    record { outcome = n; room = room′; store = store′; session = s′ } ≡ step c room store s → n < 16
-outcome-small n room′ store′ s′ c room store s e = rw (ap (λ (a : After). a .outcome) e) (step-small c room store s)
+either-small : (t : Bool) (v : Verdict) (p : Operation) (room store : List ℕ) (os : List Object) (s s′ : Session) →
+    (if t then unanswered room store s else answered v p room store os s′) .outcome < 16
+unfolding unanswered answered declined performed
+either-small true v p room store os s s′ = omega arith
+either-small false (Refused r) p room store os s s′ = omega arith
+either-small false Accepted p room store os s s′ = omega arith
 
 -- `put_line`
 module _ (n : ℕ) (room′ store′ : List ℕ) (s′ : Session) (c store : List ℕ) (s : Session)
     (e : record { outcome = n; room = room′; store = store′; session = s′ } ≡ step c (zeros 1504) store s) where
+  pub outcome-small : n < 16
+  unfolding step judged
+  outcome-small = rw (ap (λ (a : After). a .outcome) e) (either-small (ltb (length (zeros 1504)) 4) _ _ (zeros 1504) store _ s _)
+
   pub line-put : (at d n₁ n₂ n₃ n₄ : ℕ) (o o₁ o₂ o₃ o₄ : List ℕ) → d ≡ digit n
       → Put at (d ∷ []) o o₁ n₁ → Put n₁ (0x20 ∷ []) o₁ o₂ n₂ → Put n₂ (upper-hex (response-in room′)) o₂ o₃ n₃ → Put n₃ (0x0A ∷ []) o₃ o₄ n₄
       → Put at (answer-line (step c (zeros 1504) store s)) o o₄ n₄
   unfolding answer-line line
-  line-put at d n₁ n₂ n₃ n₄ o o₁ o₂ o₃ o₄ f p q r t =
-      let hex = upper-hex (response-in room′) in
-      let led = put-next at (d ∷ []) (0x20 ∷ []) o o₁ o₂ n₁ n₂ p q in
-      let shown = put-next at (d ∷ 0x20 ∷ []) hex o o₂ o₃ n₂ n₃ led r in
-      let whole = put-next at (d ∷ 0x20 ∷ hex) (0x0A ∷ []) o o₃ o₄ n₃ n₄ shown t in
-      rw (← e, ← f) whole
+  line-put at d n₁ n₂ n₃ n₄ o o₁ o₂ o₃ o₄ f p q r t = rw (← e, ← f) (put-next (put-next (put-next p q) r) t)
 
   pub line-store : store′ ≡ step c (zeros 1504) store s .store
   line-store = ap (λ (a : After). a .store) e
@@ -66,9 +55,7 @@ module _ (n : ℕ) (room′ store′ : List ℕ) (s′ : Session) (c store : Lis
 pub response-put : (at n k z : ℕ) (room o after : List ℕ) → k ≡ big-endian-at 2 room → z ≡ min (4 + k) (length room) → Put at (upper-hex (take z room)) o after n
     → Put at (upper-hex (response-in room)) o after n
 unfolding response-in
-response-put at n k z room o after e f p =
-    let fills : take z room ≡ take (4 + big-endian-at 2 room) room = ap (λ i. take i room) f ∙ take-min (4 + k) room ∙ ap (λ i. take (4 + i) room) e in
-    rw (← fills) p
+response-put at n k z room o after e f p = rw (f, take-min, e) at p
 
 -- `put_cut`
 pub cut-put : (at n : ℕ) (o after : List ℕ) → Put at (99 ∷ 117 ∷ 116 ∷ 10 ∷ []) o after n → Put at (line (ascii "cut")) o after n
@@ -94,13 +81,13 @@ enough (suc n) (suc m) (x ∷ y ∷ rest) store s h k =
     (enough n m (drop size rest) (a .store) (a .session) (simp length-drop (omega arith)) (simp length-drop (omega arith)))
 
 -- the lines for all of an input
-unfoldable pub lines-of : List ℕ → List ℕ → Session → List ℕ
+abbrev pub lines-of : List ℕ → List ℕ → Session → List ℕ
 lines-of input store s = lines (length input) input store s
 
 one-line : (x y : ℕ) (rest store : List ℕ) (s : Session) → 256 * x + y ≤ length rest →
     let a = step (take (256 * x + y) rest) (zeros 1504) store s in
     lines-of (x ∷ y ∷ rest) store s ≡ answer-line a ++ lines-of (drop (256 * x + y) rest) (a .store) (a .session)
-unfolding lines-of lines
+unfolding lines
 one-line x y rest store s h =
     let size = 256 * x + y in
     let a = step (take size rest) (zeros 1504) store s in
@@ -109,16 +96,14 @@ one-line x y rest store s h =
     (enough (suc (length rest)) (length (drop size rest)) (drop size rest) (a .store) (a .session) (simp length-drop (omega arith)) (omega arith)))
 
 no-line : (x y : ℕ) (rest store : List ℕ) (s : Session) → length rest < 256 * x + y → lines-of (x ∷ y ∷ rest) store s ≡ line (ascii "cut")
-unfolding lines-of lines
+unfolding lines
 no-line x y rest store s h = rw (lt-ltb (length rest) (256 * x + y) h)
 
 -- the length that leads a command, and what comes after it
 led : (input : List ℕ) (at : ℕ) → 2 ≤ length input - at → drop at input ≡ getD input at 0 ∷ getD input (at + 1) 0 ∷ drop (at + 2) input
 led input at h =
-    let past : suc (at + 1) ≡ at + 2 = omega arith in
-    drop-cons input at 0 (omega arith) ∙
-    ap (λ xs. getD input at 0 ∷ xs) (ap (λ k. drop k input) (sym (add-one at)) ∙ drop-cons input (at + 1) 0 (omega arith)) ∙
-    ap (λ k. getD input at 0 ∷ getD input (at + 1) 0 ∷ drop k input) past
+    let past : at + 2 ≡ suc (suc at) = omega arith in
+    rw (past, add-one, drop-cons input at 0 (omega arith), drop-cons input (suc at) 0 (omega arith))
 
 -- the loop of `put_lines`
 module _ (input all o₀ store o : List ℕ) (s : Session) (at next : ℕ) (w : Onward 0 all o₀ next (lines-of (drop at input) store s) o) where
@@ -128,66 +113,35 @@ module _ (input all o₀ store o : List ℕ) (s : Session) (at next : ℕ) (w : 
         Put next (answer-line a) o o₁ n₁ → store₁ ≡ a .store → s₁ ≡ a .session
         → Onward 0 all o₀ n₁ (lines-of (drop (at + 2 + size) input) store₁ s₁) o₁
     lines-on o₁ store₁ s₁ n₁ k p f g =
-        let x = getD input at 0 in
-        let y = getD input (at + 1) 0 in
-        let rest = drop (at + 2) input in
-        let same : take (at + 2 + size - (at + 2)) rest ≡ take (256 * x + y) rest = ap (λ i. take i rest) (add-sub-cancel-left (at + 2) size ∙ e) in
-        let past : drop (256 * x + y) rest ≡ drop (at + 2 + size) input = drop-drop (256 * x + y) (at + 2) input ∙ ap (λ i. drop (at + 2 + i) input) (sym e) in
-        let a = step (take (at + 2 + size - (at + 2)) rest) (zeros 1504) store s in
-        let here : lines-of (drop at input) store s ≡ answer-line a ++ lines-of (drop (at + 2 + size) input) store₁ s₁ =
-        ap (λ xs. lines-of xs store s) (led input at h) ∙ one-line x y rest store s (simp length-drop (omega arith)) ∙ rw (past, ← same, ← f, ← g) in
-        onward (answer-line a) (lines-of (drop (at + 2 + size) input) store₁ s₁) o₁ n₁ w here p
+        let within : 256 * getD input at 0 + getD input (at + 1) 0 ≤ length (drop (at + 2) input) = simp length-drop (omega arith) in
+        onward w p (rw (led input at h, one-line (getD input at 0) _ _ store s within, f, g, add-sub-cancel-left (at + 2) size, e, drop-drop))
 
     pub lines-cut : (o₁ : List ℕ) (n₁ : ℕ) → length input - at - 2 < size → Put next (line (ascii "cut")) o o₁ n₁ → Put 0 all o₀ o₁ n₁
     lines-cut o₁ n₁ k p =
-        let short : lines-of (drop at input) store s ≡ line (ascii "cut") =
-        ap (λ xs. lines-of xs store s) (led input at h) ∙
-        no-line (getD input at 0) (getD input (at + 1) 0) (drop (at + 2) input) store s (simp length-drop (omega arith)) in
-        onward-last (line (ascii "cut")) o₁ n₁ w short p
+        onward-last w p (rw (led input at h) (no-line (getD input at 0) (getD input (at + 1) 0) (drop (at + 2) input) store s (simp length-drop (omega arith))))
 
   pub length-cut : (o₁ : List ℕ) (n₁ : ℕ) → at < length input → length input - at < 2 → Put next (line (ascii "cut")) o o₁ n₁ → Put 0 all o₀ o₁ n₁
-  unfolding lines-of lines
-  length-cut o₁ n₁ h k p =
-      let alone : drop at input ≡ getD input at 0 ∷ [] =
-      drop-cons input at 0 h ∙ ap (λ xs. getD input at 0 ∷ xs) (drop-of-length-le input {i = suc at} (omega arith)) in
-      onward-last (line (ascii "cut")) o₁ n₁ w (rw alone) p
+  unfolding lines
+  length-cut o₁ n₁ h k p = onward-last w p (rw (drop-cons input at 0 h, drop-of-length-le input {i = suc at} (omega arith)))
 
   pub lines-end : length input ≤ at → next ≤ length o → Put 0 all o₀ o next
-  unfolding lines-of lines
+  unfolding lines
   lines-end h k = onward-end w (rw (drop-of-length-le input h)) k
-
-pub lines-start : (input store o : List ℕ) (s : Session) → Onward 0 (lines (length input) input store s) o 0 (lines-of (drop 0 input) store s) o
-unfolding lines-of
-lines-start input store o s = record { then = λ after n p. p }
 
 -- `print_all` -------------------------------------------------------------------------------------------------------------------
 
-put-count : (text o after : List ℕ) (n : ℕ) → Put 0 text o after n → n ≡ fitting text o
+pub shown : (text o after : List ℕ) (n : ℕ) → Put 0 text o after n → (n ≡ fitting text o) × (after ≡ in-front text o)
 unfolding fitting
-put-count text o after n p = p .count ∙ rw zero-add
+shown text o after n p = (p .count ∙ rw zero-add, p .bytes)
 
 abbrev too-long : List ℕ
 too-long = 116 ∷ 111 ∷ 111 ∷ 32 ∷ 108 ∷ 111 ∷ 110 ∷ 103 ∷ 10 ∷ []
 
-module _ (input o after : List ℕ) (n : ℕ) (h : 16384 < length input) (p : Put 0 too-long o after n) where
-  long-printed : Put 0 (printed input) o after n
-  unfolding printed line ascii
-  long-printed = rw (lt-ltb 16384 (length input) h) p
+pub long-printed : (input o after : List ℕ) (n : ℕ) → 16384 < length input → Put 0 too-long o after n → Put 0 (printed input) o after n
+unfolding printed line ascii
+long-printed input o after n h p = rw (lt-ltb 16384 (length input) h) p
 
-  pub long-count : n ≡ fitting (printed input) o
-  long-count = put-count (printed input) o after n long-printed
-
-  pub long-bytes : after ≡ in-front (printed input) o
-  long-bytes = long-printed .bytes
-
-module _ (input o after store : List ℕ) (n : ℕ) (s : Session) (h : length input ≤ 16384) (e : store ≡ factory-made (zeros 6024)) (f : s ≡ fresh-session)
-    (p : Put 0 (lines (length input) input store s) o after n) where
-  lines-printed : Put 0 (printed input) o after n
-  unfolding printed factory-made
-  lines-printed = let made : store ≡ factory-store = e in rw (le-ltb 16384 (length input) h, ← made, ← f) p
-
-  pub lines-count : n ≡ fitting (printed input) o
-  lines-count = put-count (printed input) o after n lines-printed
-
-  pub lines-bytes : after ≡ in-front (printed input) o
-  lines-bytes = lines-printed .bytes
+pub lines-printed : (input o after store : List ℕ) (n : ℕ) (s : Session) → length input ≤ 16384 → store ≡ factory-made (zeros 6024) → s ≡ fresh-session
+    → Put 0 (lines (length input) input store s) o after n → Put 0 (printed input) o after n
+unfolding printed factory-made
+lines-printed input o after store n s h e f p = let made : store ≡ factory-store = e in rw (le-ltb 16384 (length input) h, ← made, ← f) p

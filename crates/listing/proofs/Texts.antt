@@ -3,7 +3,7 @@ use Prim.Native.Nat.{ℕ, zero, suc, _+_, _-_, _≤_, _<_, min}
 use mathlib.Core.Path.{_≡_, refl, sym, ap, _∙_}
 use mathlib.Core.List.{List, [], _∷_, _++_, append-nil, append-assoc}
 use native.Mathlib.Omega.{arith}
-use native.Mathlib.Nat.{sub-zero, zero-sub, suc-sub-suc, zero-min, min-zero, suc-min-suc}
+use native.Mathlib.Nat.{zero-min, min-zero, suc-min-suc}
 use native.Mathlib.Numerals.{add-one}
 use lib.ListN.{length, take, drop, set, length-append, length-take, length-drop, length-set, drop-of-length-le, take-append-drop}
 use lib.Seq.{drop-drop, set-split, take-all, take-at, drop-at, take-nil, drop-nil}
@@ -11,11 +11,11 @@ use Rattle.primitives.specs.Bytes.{over}
 use Rattle.primitives.proofs.Over.{over-length}
 use Rattle.listing.specs.Text.{in-front, fitting, Put}
 
--- a text is cut at the end: the front of two texts
-take-two : (k : ℕ) (a b : List ℕ) → take k (a ++ b) ≡ take k a ++ take (k - length a) b
-take-two zero a b = rw zero-sub
-take-two (suc k) [] b = rw sub-zero
-take-two (suc k) (x ∷ a) b = rw suc-sub-suc (ap (λ z. x ∷ z) (take-two k a b))
+-- a text is cut at the end of an output: the front of two texts
+take-two : (o a b : List ℕ) → take (length o) (a ++ b) ≡ take (length o) a ++ take (length (drop (length a) o)) b
+take-two [] a b = rw drop-nil
+take-two (x ∷ o) [] b = refl
+take-two (x ∷ o) (y ∷ a) b = ap (λ z. y ∷ z) (take-two o a b)
 
 -- past the end there is nothing to take or to drop
 pub take-min : (k : ℕ) (text : List ℕ) → take (min k (length text)) text ≡ take k text
@@ -34,9 +34,9 @@ unfolding in-front
 put-nothing at o h = record { start = h; bytes = rw take-nil (sym (take-append-drop at o)); count = omega arith; whole = refl }
 
 -- a text, and another after it
-pub put-next : (at : ℕ) (a b o o₁ o₂ : List ℕ) (n₁ n₂ : ℕ) → Put at a o o₁ n₁ → Put n₁ b o₁ o₂ n₂ → Put at (a ++ b) o o₂ n₂
+pub put-next : {at : ℕ} {a b o o₁ o₂ : List ℕ} {n₁ n₂ : ℕ} → Put at a o o₁ n₁ → Put n₁ b o₁ o₂ n₂ → Put at (a ++ b) o o₂ n₂
 unfolding in-front
-put-next at a b o o₁ o₂ n₁ n₂ p q =
+put-next {at} {a} {b} {o} {o₁} {o₂} {n₁} {n₂} p q =
     let rest = drop at o in
     let front = take at o ++ take (length rest) a in
     let past = drop (length a) rest in
@@ -45,12 +45,12 @@ put-next at a b o o₁ o₂ n₁ n₂ p q =
     let first : o₁ ≡ front ++ past = p .bytes ∙ sym (append-assoc (take at o) (take (length rest) a) past) in
     let kept : take n₁ o₁ ≡ front = ap (take n₁) first ∙ take-at front past n₁ reach in
     let behind : drop n₁ o₁ ≡ past = ap (drop n₁) first ∙ drop-at front past n₁ reach in
-    let second : o₂ ≡ front ++ (take (length past) b ++ drop (length b) past) = q .bytes ∙ rw (kept, behind) in
-    let shown : take (length rest) (a ++ b) ≡ take (length rest) a ++ take (length past) b =
-    take-two (length rest) a b ∙ ap (λ k. take (length rest) a ++ take k b) (sym (length-drop (length a) rest)) in
-    let tail : drop (length b) past ≡ drop (length (a ++ b)) rest =
-    drop-drop (length b) (length a) rest ∙ ap (λ k. drop k rest) (sym (length-append a b)) in
-    record { start = p .start; bytes = second ∙ rw (shown, ← tail) (simp append-assoc); count = simp length-append (omega arith); whole = omega arith }
+    record {
+      start = p .start;
+      bytes = q .bytes ∙ rw (kept, behind, take-two rest a b, length-append, drop-drop (length b) (length a) rest) (simp append-assoc);
+      count = simp length-append (omega arith);
+      whole = omega arith;
+    }
 
 -- `put_byte`
 pub byte-fits : (at b : ℕ) (o : List ℕ) → at < length o → Put at (b ∷ []) o (set o at b) (at + 1)
@@ -72,13 +72,13 @@ unfolding in-front over
 text-put at n text o after h e f =
     let left : length (drop at o) ≡ length o - at = length-drop at o in
     let small : n ≡ min (length (drop at o)) (length text) = omega arith in
-    let same : n ≡ min (length text) (length (drop at o)) = omega arith in
-    let size : length (take n text) ≡ n = simp length-take (omega arith) in
-    let shown : take n text ≡ take (length (drop at o)) text = ap (λ k. take k text) small ∙ take-min (length (drop at o)) text in
-    let past : drop (at + length (take n text)) o ≡ drop (length text) (drop at o) =
-    ap (λ k. drop (at + k) o) (size ∙ same) ∙ sym (drop-drop (min (length text) (length (drop at o))) at o) ∙
-    drop-min (length text) (drop at o) in
-    record { start = h; bytes = f ∙ rw (past, shown); count = omega arith; whole = ap length f ∙ over-length at (take n text) o (omega arith) }
+    let size : at + min n (length text) ≡ at + min (length text) (length (drop at o)) = omega arith in
+    record {
+      start = h;
+      bytes = f ∙ rw (length-take, size, ← drop-drop (min (length text) (length (drop at o))) at o, drop-min, small, take-min);
+      count = omega arith;
+      whole = ap length f ∙ over-length at (take n text) o (simp length-take (omega arith));
+    }
 
 -- what is left to put, so that all of a text will have been put
 pub record Onward (at₀ : ℕ) (all o₀ : List ℕ) (at : ℕ) (rest o : List ℕ) : Type 0 where
@@ -86,12 +86,12 @@ pub record Onward (at₀ : ℕ) (all o₀ : List ℕ) (at : ℕ) (rest o : List 
 
 module _ {at₀ at : ℕ} {all o₀ rest o : List ℕ} where
   -- a part of the rest is put
-  pub onward : (text left o₁ : List ℕ) (n₁ : ℕ) → Onward at₀ all o₀ at rest o → rest ≡ text ++ left → Put at text o o₁ n₁ → Onward at₀ all o₀ n₁ left o₁
-  onward text left o₁ n₁ w e p = record { then = λ after n q. w .then after n (rw e (put-next at text left o o₁ after n₁ n p q)) }
+  pub onward : {text left o₁ : List ℕ} {n₁ : ℕ} → Onward at₀ all o₀ at rest o → Put at text o o₁ n₁ → rest ≡ text ++ left → Onward at₀ all o₀ n₁ left o₁
+  onward w p e = record { then = λ after n q. w .then after n (rw e (put-next p q)) }
 
   -- all of the rest is put
-  pub onward-last : (text after : List ℕ) (n : ℕ) → Onward at₀ all o₀ at rest o → rest ≡ text → Put at text o after n → Put at₀ all o₀ after n
-  onward-last text after n w e p = w .then after n (rw e p)
+  pub onward-last : {text after : List ℕ} {n : ℕ} → Onward at₀ all o₀ at rest o → Put at text o after n → rest ≡ text → Put at₀ all o₀ after n
+  onward-last {n = n} w p e = w .then _ n (rw e p)
 
   -- nothing is left
   pub onward-end : Onward at₀ all o₀ at rest o → rest ≡ [] → at ≤ length o → Put at₀ all o₀ o at

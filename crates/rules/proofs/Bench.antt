@@ -15,7 +15,7 @@ use Rattle.rules.specs.Session.{with-opened, with-lcsg, with-lcsa, with-
 use Rattle.rules.specs.Access.{seen, named, present, condition-holds, group-holds, groups-hold, holds, asked, granted}
 use Rattle.rules.specs.Metadata.{field, fields-bytes, object-fields, led-by-20, metadata, read-fields, sent-fields, field-allowed, fields-allowed, metadata-allowed, value-of, sent-state, sent-expression, with-fields}
 use Rattle.rules.specs.Chain.{_refused_or_, _and-then_}
-use Rattle.rules.specs.Operation.{put-at, value-allowed, writing, operation, setting-session}
+use Rattle.rules.specs.Operation.{put-at, value-allowed, operation, setting-session}
 use Rattle.rules.specs.Refusals.{unsound, ill-sized, unknown-cmd, unusable, unknown-param, wrong-length, wrong-content, early, ruling-on, ruling-of, ruling, fitting, late, verdict}
 use Rattle.rules.specs.Step.{raised, declined, replacing, performed, answered, judged, flushed, unanswered, step}
 use Rattle.rules.specs.Program.{digit, upper-hex, line, response-in, answer-line, lines, printed}

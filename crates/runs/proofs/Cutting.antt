@@ -1,11 +1,11 @@
 -- From the turns of the loop to the rules' run of the list.
 use Prim.Native.Nat.{ℕ, suc, _+_, _-_, _^_, _≤_, _<_, min}
-use mathlib.Core.Path.{_≡_, refl, sym, ap, ap₂, _∙_}
+use mathlib.Core.Path.{_≡_, sym, ap, _∙_}
 use mathlib.Core.List.{List, [], _∷_, _++_, map, flatMap, append-nil, append-assoc}
 use native.Mathlib.Nat.{add-zero, sub-zero, add-sub-cancel-left}
 use native.Mathlib.Numerals.{add-one}
 use native.Mathlib.Omega.{arith}
-use lib.ListN.{length, getD, take, drop, set, length-append, length-drop, length-set, take-append-drop, List·getD-eq-default}
+use lib.ListN.{length, getD, take, drop, set, length-append, length-drop, length-set, take-append-drop, List·getD-eq-default, length-take}
 use lib.Seq.{take-at, drop-at, drop-drop, getD-drop, take-suc-set, length-take-le, take-all}
 use Rattle.mixing.specs.Runs.{answers, end}
 use Rattle.rules.specs.declared.Session.{Session}
@@ -56,20 +56,7 @@ one-turn n w v od rd commands sizes rooms spaces store session ew ev = rw (ew, e
 
 -- the part of a list that starts further on
 next-width : (sizes l : List ℕ) (i at : ℕ) → width (drop i sizes) (drop at l) ≡ min (getD sizes i 0) (length l - at)
-next-width sizes l i at = ap₂ min (getD-drop i sizes 0 0 ∙ ap (λ j. getD sizes j 0) (add-zero i)) (length-drop at l)
-
--- a room at its place among all rooms
-module _ (to m : ℕ) (room rooms : List ℕ) (h : to + m ≤ length rooms) (e : length room ≡ m) where
-  front-length : length (take to rooms ++ room) ≡ to + m
-  front-length = length-append (take to rooms) room ∙ ap₂ _+_ (length-take-le to rooms (omega arith)) e
-
-  take-over : take (to + m) (over to room rooms) ≡ take to rooms ++ room
-  unfolding over
-  take-over = rw (e, ← append-assoc) (take-at (take to rooms ++ room) (drop (to + m) rooms) (to + m) front-length)
-
-  drop-over : drop (to + m) (over to room rooms) ≡ drop m (drop to rooms)
-  unfolding over
-  drop-over = rw (e, ← append-assoc) (drop-at (take to rooms ++ room) (drop (to + m) rooms) (to + m) front-length ∙ sym (drop-drop m to rooms))
+next-width sizes l i at = rw (getD-drop i sizes 0 0, add-zero, length-drop)
 
 -- what the loop has done and what is ahead of it
 abbrev pub pending : Lent → (store rooms outcomes : List ℕ) → Session → (at to i : ℕ) → Returned
@@ -83,13 +70,15 @@ turned : (l : Lent) (store rooms outcomes : List ℕ) (session : Session) (at to
     → let a : After = told (l .commands) rooms store session at n to m in
     pending l (a .store) (over to (a .room) rooms) (set outcomes i (a .outcome)) (a .session) (at + n) (to + m) (i + 1)
     ≡ pending l store rooms outcomes session at to i
+unfolding over
 turned l store rooms outcomes session at to i n m h f en em =
     let a : After = told (l .commands) rooms store session at n to m in
     let e : length (a .room) ≡ m = told-length (l .commands) rooms store session at n to m f in
+    let past : length (take to rooms ++ a .room) ≡ to + m = simp (length-append, length-take) (omega arith) in
     let count : length outcomes - i ≡ suc (length outcomes - (i + 1)) = omega arith in
     let front : take (i + 1) (set outcomes i (a .outcome)) ≡ take i outcomes ++ (a .outcome ∷ []) = rw add-one (take-suc-set outcomes i (a .outcome) h) in
-    rw (take-over to m (a .room) rooms f e, drop-over to m (a .room) rooms f e, front, length-set, count)
-    (rw (← drop-drop n at (l .commands), ← drop-drop 1 i (l .sizes), ← drop-drop 1 i (l .spaces))
+    rw (← append-assoc, take-at (take to rooms ++ a .room) _ (to + m) past, drop-at (take to rooms ++ a .room) _ (to + m) past, e, front, length-set, count)
+    (rw (← drop-drop n at (l .commands), ← drop-drop 1 i (l .sizes), ← drop-drop m to rooms, ← drop-drop 1 i (l .spaces))
     (one-turn _ n m _ _ _ _ _ _ store session (next-width (l .sizes) (l .commands) i at ∙ sym en) (next-width (l .spaces) rooms i to ∙ sym em)))
 
 -- the loop: the turns that are done, and then the rules' run of the others, come to the rules' run of all

@@ -55,13 +55,11 @@ laid-out-given ts k =
 -- every list of commands whose bytes are bytes and whose sizes fit: there are buffers, of the parameters' types, whose commands are
 -- exactly these
 pub every-list-laid-out : (ts : List Turn) (k : Kept) → Fitting ts → InTypes (laid-out ts k) × Given ts k (laid-out ts k)
-every-list-laid-out ts k h = (
-  record {
-    commands = record { each = all-joined (λ t. t .command) ts (h .command-bytes); room = h .commands-fit };
-    sizes = record { each = all-sizes (λ t. t .command) ts (h .commands-fit); room = simp length-map (h .count-fits) };
-    rooms = record { each = all-joined (λ t. t .room) ts (h .room-bytes); room = h .rooms-fit };
-    spaces = record { each = all-sizes (λ t. t .room) ts (h .rooms-fit); room = simp length-map (h .count-fits) };
-    outcomes = record { each = all-zeros (length ts); room = simp length-replicate (omega arith) };
-  },
-  laid-out-given ts k,
-)
+every-list-laid-out ts k h =
+    let sizes : length (map (λ (t : Turn). length (t .command)) ts) ≡ length ts = simp length-map in
+    let spaces : length (map (λ (t : Turn). length (t .room)) ts) ≡ length ts = simp length-map in
+    let outcomes : length (zeros (length ts)) ≡ length ts = simp length-replicate in (
+      search
+          (all-joined (λ t. t .command), all-joined (λ t. t .room), all-sizes (λ t. t .command), all-sizes (λ t. t .room), all-zeros, arith),
+      laid-out-given ts k,
+    )

@@ -1,6 +1,6 @@
 -- What demand 3 of the library's runs assumes is met: the two lists and the mix of the rules' Witnesses, laid out in buffers of the parameters'
 -- types, are what three calls of `run` are lent, and demand 3 holds of them.
-use Prim.Native.Nat.{ℕ, _*_, _^_, _<_}
+use Prim.Native.Nat.{ℕ, _<_}
 use mathlib.Core.Bool.{true}
 use mathlib.Core.List.{List, [], _∷_, _++_, map, flatMap}
 use mathlib.Core.Path.{_≡_, refl}

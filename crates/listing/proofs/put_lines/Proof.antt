@@ -4,8 +4,8 @@ use mathlib.Core.Path.{_≡_, refl}
 use native.Mathlib.Omega.{arith}
 use lib.ListN.{length, drop}
 use Rattle.rules.specs.Program.{lines}
-use Rattle.listing.proofs.Texts.{Onward}
-use Rattle.listing.proofs.Lines.{lines-of, lines-start, lines-on, length-cut, lines-cut, lines-end}
+use Rattle.listing.proofs.Texts.{Onward, onward-start}
+use Rattle.listing.proofs.Lines.{lines-of, lines-on, length-cut, lines-cut, lines-end}
 use borrow.Author.Needs.{needs}
 use Rattle.listing.proofs.put_lines.Statement.{statement}
 use Rattle.listing.proofs.put_lines.Tie as tie
@@ -18,7 +18,7 @@ abbrev μ-loop : tie.MeasureT-loop
 
 pub put-lines-spec : {M : Type 1} → statement M
 put-lines-spec = tie.close (tie.spec
-    Inv-loop μ-loop (λ c. (omega arith, omega arith, refl, refl, search lines-start)) (λ c. search needs)
+    Inv-loop μ-loop (λ c. (omega arith, omega arith, refl, refl, search onward-start)) (λ c. search needs)
     (λ c κs. search needs) (λ c. search needs) (λ c. search needs) (λ c. search length-cut) (λ c κs. search needs)
     (λ c. search needs) (λ c. search needs) (λ c κs. search needs) (λ c. search needs) (λ c. search needs)
     (λ c. search lines-cut) (λ c. search needs) (λ c. search needs) (λ c. search needs) (λ c. search needs)
