@@ -10,9 +10,6 @@ use Rattle.laws.proofs.Facts.{allowed}
 use Rattle.laws.proofs.Fitting.{Fitting, content-fits}
 use Rattle.laws.proofs.Inverse.{record-length}
 use Rattle.laws.proofs.Puts.{put-used}
-use Rattle.rules.specs.Basic.{is-some}
-use Rattle.rules.specs.declared.Slot.{Slot}
-use Rattle.rules.specs.Expression.{is-state, expression, read-expression}
 use Rattle.rules.specs.Object.{Object, object-allowed, with-content}
 use Rattle.rules.specs.Layout.{record-size, record-bytes}
 use Rattle.rules.specs.Operation.{put-at}
@@ -20,9 +17,7 @@ use Rattle.primitives.specs.Bytes.{over}
 use Rattle.primitives.proofs.Over.{over-part, over-length}
 use Rattle.record.specs.Places.{object-at, Stored, with-record}
 use Rattle.record.proofs.Standing.{object-here, stands-here, stored-facts}
-use Rattle.change.specs.Change.{with-lcso, with-expression}
-use Rattle.change.proofs.Changed.{stands-allowed, unchanged, lcso-fits, expression-fits}
-use Rattle.change.proofs.Records.{read-allowed}
+use Rattle.change.proofs.Changed.{stands-allowed, unchanged}
 
 -- the changes have left b1: the store b with the record of o at p, an allowed object of the number and maximum that stood there
 pub record Rewritten (p : ℕ) (b : List ℕ) (o : Object) (b1 : List ℕ) : Type 0 where
@@ -58,7 +53,7 @@ module _ (p : ℕ) (b : List ℕ) (o : Object) (b1 : List ℕ) (l : Rewritten p 
   left-stored = stored-facts p b1 (stands-here p b1 o _ (l .allowed) here)
 
   -- one change more, f, of the object that stands there
-  left-then : (f : Object → Object) (b2 : List ℕ) → Fitting o (f o) → b2 ≡ with-record p (f (object-at p b1)) b1 → Rewritten p b (f o) b2
+  pub left-then : (f : Object → Object) (b2 : List ℕ) → Fitting o (f o) → b2 ≡ with-record p (f (object-at p b1)) b1 → Rewritten p b (f o) b2
   unfolding with-record over
   left-then f b2 g e =
       let same : length (record-bytes o) ≡ length (record-bytes (f o)) = omega (arith, long, g .maximum, record-length (f o) (allowed (f o) (g .allowed))) in
@@ -80,10 +75,3 @@ module _ (p : ℕ) (b : List ℕ) (o : Object) (b1 : List ℕ) (l : Rewritten p 
     left-written k src h =
         left-then (λ x. with-content (put-at k src (x .content)) x) b2
         (content-fits _ o (l .allowed) (omega (arith, put-used k src (o .content), allowed o (l .allowed) .used-fits)))
-
-    pub left-lcso : (n : ℕ) → is-state n ≡ true → b2 ≡ with-record p (with-lcso n (object-at p b1)) b1 → Rewritten p b (with-lcso n o) b2
-    left-lcso n h = left-then (with-lcso n) b2 (lcso-fits o (l .allowed) n h)
-
-    pub left-expression : (t : Slot) (v : List ℕ) → is-some (expression v) ≡ true →
-        b2 ≡ with-record p (with-expression t (read-expression v) (object-at p b1)) b1 → Rewritten p b (with-expression t (read-expression v) o) b2
-    left-expression t v h = left-then (with-expression t (read-expression v)) b2 (expression-fits o (l .allowed) t _ (read-allowed v h .0))

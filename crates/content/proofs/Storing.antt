@@ -6,7 +6,7 @@ use mathlib.Core.List.{List, [], _∷_}
 use mathlib.Core.Logic.{inl, inr}
 use mathlib.Core.Option.{Option, none, some}
 use native.Mathlib.Omega.{arith}
-use borrow.Author.Tests.{eqb-true, eqb-false, eq-eqb, ne-eqb, le-leb, ltb-true}
+use borrow.Author.Tests.{eqb-true, eq-eqb, ne-eqb, le-leb, ltb-true}
 use types.Run.{OneOf}
 use denote.Enum.Declared.{tagOf}
 use lib.Dec.{eqb, ltb, leb}
@@ -15,16 +15,17 @@ use Rattle.rules.specs.declared.Slot.{Slot}
 use Rattle.rules.specs.Basic.{if_then_else_, among, rising-from, is-some}
 use Rattle.rules.specs.Expression.{expression, read-expression, is-state, may-become}
 use Rattle.rules.specs.Object.{Object}
-use Rattle.rules.specs.Metadata.{Field, field, sent-fields, field-allowed, metadata-allowed}
+use Rattle.rules.specs.Metadata.{Field, field, sent-fields, field-allowed, fields-allowed, metadata-allowed}
 use Rattle.rules.specs.Metadata.{value-of, sent-state, sent-expression, with-fields}
 use Rattle.laws.proofs.Tests.{and-left, and-right}
 use Rattle.laws.proofs.Expressions.{expression-back}
+use Rattle.laws.proofs.Fitting.{fields-fit}
 use Rattle.expression.proofs.Tests.{among-yes}
 use Rattle.record.specs.Places.{object-at, Stored, with-record}
 use Rattle.record.specs.Records.{part}
 use Rattle.change.specs.Change.{with-lcso, with-expressions, with-expression}
 use Rattle.change.proofs.Records.{read-allowed}
-use Rattle.change.proofs.Rewritten.{Rewritten, left-start, left-lcso, left-expression}
+use Rattle.change.proofs.Rewritten.{Rewritten, left-start, left-then}
 use Rattle.reader.specs.declared.Next.{Next}
 use Rattle.reader.specs.declared.Next.the-variants as next
 use Rattle.reader.specs.Content.{field-at, place-after}
@@ -93,15 +94,8 @@ module _ (t : ℕ) (v : List ℕ) (h : field-allowed 0 (field t v) ≡ true) whe
   -- one field more is stored
   left-field : (p : ℕ) (b : List ℕ) (o : Object) (b1 b2 : List ℕ) → Rewritten p b o b1 →
       b2 ≡ with-record p (with-fields (field t v ∷ []) (object-at p b1)) b1 → Rewritten p b (with-fields (field t v ∷ []) o) b2
-  left-field p b o b1 b2 l q = go (eqb t 0xC0) refl
-    where
-      go : (u : Bool) → eqb t 0xC0 ≡ u → Rewritten p b (with-fields (field t v ∷ []) o) b2
-      go true e =
-          let k = eqb-true t 0xC0 e in
-          rw (← state-change k) (left-lcso p b o b1 l b2 (getD v 0 0) (state-sound k) (rw (← state-change k) at q))
-      go false e =
-          let n = eqb-false t 0xC0 e in
-          rw (← expression-change n) (left-expression p b o b1 l b2 (tag-slot t) v (expression-sound n) (rw (← expression-change n) at q))
+  unfolding fields-allowed
+  left-field p b o b1 b2 l = left-then p b o b1 l (with-fields (field t v ∷ [])) b2 (fields-fit 0 o (field t v ∷ []) (l .allowed) (rw h))
 
 -- field after field ------------------------------------------------------------------------------------------------------------
 

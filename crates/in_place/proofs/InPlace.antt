@@ -11,7 +11,7 @@ use mir.Syntax.{Name, Ty, tyRef, tyInt, w8, tyStruct, Tys, tnil, tcons, Sym, Ste
 use mir.Val.{Val, WT, hasTy, vint, vptr, vstruct, Vals, vnil, vcons}
 use mir.Fields.{getV, setV}
 use mathlib.Core.Option.{some as somewhere}
-use base.Logic.{SProp, ent, sep, ex, emp, id⊢, via, fst∗, snd∗, monoR}
+use base.Logic.{SProp, ent, sep, ex, emp, id⊢, via, snd∗, monoR}
 use base.Stored.{Gv}
 use base.Fml.{Lft, Share, GName, Fml, ftrue, fsep, feq, fat, froom, fdies, flft, fobs, fauth, fres, fobor}
 use prog.Memory.{fieldAt}
@@ -30,7 +30,6 @@ use denote.Struct.Declared.{Declared, fields, row}
 use denote.Struct.Laws as LL
 use denote.Struct.Steps.{spelt}
 use denote.Triple.Call.{calls-from}
-use denote.Triple.Walked.{says}
 use prog.Wp.{Heap, Calls, Loops, WpFn, Closed, Env, Spot, noLocal}
 use prog.Model.{Model}
 use prog.Routine.{Env as Names}
@@ -38,7 +37,7 @@ use contract.Running.{Running, GhostRules, tables, tablesOf, givenOf}
 use ghost.Atoms.{Atoms, sem}
 use contract.Lifetimes.{Lfts}
 use contract.Monad.{fact}
-use types.Kit.{Given, ‵, _$_, _∵_, !, qed, Item, Goal, Post, Soaks, Seq, Step, step, runs, lands, allocs, passes, frees, atRet, raw, _⊛_, some, later, ⋆, nth, put, by, move, drop, use1, split, join, pick, fsplit, fsplit3, fjoin, show, frame, updating, await, done, now as at-once, mean, pop, prop, params′}
+use types.Kit.{Given, ‵, _$_, _∵_, !, qed, Item, Goal, Post, Soaks, Seq, Step, step, runs, lands, allocs, passes, frees, atRet, raw, _⊛_, some, later, ⋆, nth, put, by, move, drop, use1, split, join, pick, fsplit, fsplit3, fjoin, await, done, mean, pop, prop, params′}
 use types.Run.{init, no-more, pass1, Opds, Reads, Walks, Finds, from, stop, hop, fld, load, addr, of-opd, and-then, assigns, land, returns, look, look-raw, store-raw, forget, alloc1, alloc0, free1, enter}
 use sound.WpLaws.{FmC, fmOf}
 use denote.Ref.{ptr-vals, RefT, MutRef}
@@ -46,7 +45,7 @@ use denote.Slice.{slice-vals, sliceTy, sliceVal, ShrSlice, MutSlice, finally}
 use denote.Triple.Entry.{onEntry}
 use denote.Triple.Spec.{tripleOf, Spec}
 use denote.Triple.Statement.{Contract, Triple}
-use denote.Triple.Table.{entered}
+use Rattle.walks.proofs.Walks.{proved, Left, leaves}
 
 -- what is passed beside the session: the token of its lifetime, what it owns, what is bound for it at the exit, and what is said of that
 pub record Beside : Type 1 where
@@ -251,11 +250,6 @@ module _ {M : Type 1} {𝓤 : URA M} {H : Heap 𝓤} {A : Atoms 𝓤} {K : Type 
       → Step K W (i ∷ j ∷ Γ) (frees E g) (i ∷ j ∷ ‵ (fat fullShare τ b 0 v) ∷ ‵ (fdies τ b) ∷ Γ) (frees ((τ, b) ∷ E) g)
   let-go t = step (λ s. move t (2 ∷ 3 ∷ []) $ forget t 0 refl $ free1 t $ s)
 
-  -- a local is an operand of the call
-  pub gives : K → (n : ℕ) {E : Env 𝓤 H} {i : ℕ} {v : Val} {xs : List Opd} {vs : List Val}
-      → nth 𝓤 H A n Γ ≡ ‵ (fat fullShare (getD E i (noLocal 𝓤 H) .0) (getD E i (noLocal 𝓤 H) .1) 0 v) → Opds K W Γ E xs vs → Opds K W Γ E (copy (place i []) ∷ xs) (v ∷ vs)
-  gives t n e = and-then t (load t (from t (stop t)) (look t n e))
-
   -- a slice is passed
   pub takes : K → (n : ℕ) {ℓ : Lifetime} {m : Mutability} {τ : Ty} {b : ℕ} {p : ℕ × ℕ} {k : ℕ} {vs : List Val} {E : Env 𝓤 H} {g : Goal 𝓤 H}
       → nth 𝓤 H A n Γ ≡ ‵ (froom (sliceTy (tyRef ℓ m τ)) b 0) → k < 2 ^ 64
@@ -298,15 +292,14 @@ module _ (S : SessionInPlace) (P : Answering (S .struct) (S .laws)) where
 
 -- what the entry ends in, where it ensures Ψ
 abbrev pub Ends : {M : Type 1} (𝓤 : URA M) (H : Heap 𝓤) (A : Atoms 𝓤) (S : SessionInPlace) → (ℕ → Lasts-all S → Type 0) → Val → SProp 𝓤
-Ends 𝓤 H A S Ψ v = H .⇛ (ex 𝓤 (λ (n : ℕ). sep 𝓤 (sep 𝓤 (sem 𝓤 H A (AllTokens S)) (sem 𝓤 H A (u8 .own n (v ∷ [])))) (ex 𝓤 (λ (ws : Lasts-all S). sep 𝓤 (sem 𝓤 H A (lasts-all S ws)) (fact 𝓤 (Ψ n ws))))))
+Ends 𝓤 H A S Ψ = Left 𝓤 H A (‵ (AllTokens S)) u8 (Lasts-all S) (lasts-all S) Ψ
 
 module _ {M : Type 1} (𝓤 : URA M) (H : Heap 𝓤) (A : Atoms 𝓤) (W : Given 𝓤 H A) where
   ended : (S : SessionInPlace) (Ψ : ℕ → Lasts-all S → Type 0) (n : ℕ) (ws : Lasts-all S) → n < 2 ^ 8 → Ψ n ws
       → ent 𝓤 (⋆ 𝓤 H A (‵ (AllTokens S) ∷ ‵ (lasts-all S ws) ∷ [])) (Ends 𝓤 H A S Ψ (vint w8 n))
   ended S Ψ n ws fits promised =
-      qed W (‵ (AllTokens S) ∷ ‵ (lasts-all S ws) ∷ []) ∵ updating ! $ at-once ! $ owned ! u8 (Is u8) (uint-makes 𝓤 H A W w8) n (vint w8 n ∷ []) (refl, fits) $
-      show ! (λ (k : ℕ). sep 𝓤 (sep 𝓤 (sem 𝓤 H A (AllTokens S)) (sem 𝓤 H A (u8 .own k (vint w8 n ∷ [])))) (ex 𝓤 (λ (us : Lasts-all S). sep 𝓤 (sem 𝓤 H A (lasts-all S us)) (fact 𝓤 (Ψ k us))))) n $
-      move ! (1 ∷ 0 ∷ []) $ join ! $ frame ! $ show ! (λ (us : Lasts-all S). sep 𝓤 (sem 𝓤 H A (lasts-all S us)) (fact 𝓤 (Ψ n us))) ws $ says ! promised $ done !
+      qed W (‵ (AllTokens S) ∷ ‵ (lasts-all S ws) ∷ []) ∵ owned ! u8 (Is u8) (uint-makes 𝓤 H A W w8) n (vint w8 n ∷ []) (refl, fits) $ move ! (1 ∷ 0 ∷ []) $
+      by ! (leaves 𝓤 H A W (‵ (AllTokens S)) u8 (Lasts-all S) (lasts-all S) Ψ (vint w8 n) n ws promised)
 
 -- an entry meets its contract, from a walk with the parameters' machine values written out, their relations and the core's contract in hand
 module _ {M : Type 1} (𝓤 : URA M) (H : Heap 𝓤) (𝓜 : Model 𝓤 H) (𝓖 : GhostRules 𝓤 H) (𝓡 : Running 𝓤 H 𝓜) (γ : Names) (S : Signature) (c : Spec 𝓤 S) where
@@ -322,11 +315,7 @@ module _ {M : Type 1} (𝓤 : URA M) (H : Heap 𝓤) (𝓜 : Model 𝓤 H) (𝓖
   meets g k f closed known sp tl walk =
       let W = givenOf 𝓤 H 𝓜 𝓖 in
       let 𝓣 = tables 𝓤 H 𝓜 𝓡 γ in
-      entered 𝓤 H (tripleOf 𝓤 H (𝓖 .A) S c) (𝓣 .C) (𝓣 .Λ) k f closed (λ y.
-      via 𝓤 (onEntry 𝓤 H (𝓖 .A) S (y .0 .0) (y .0 .1) (y .0 .3) (y .0 .4)) (fst∗ 𝓤 _ (c (y .0 .0) (y .0 .3) .requires (y .1)))
-      (said 𝓤 H (𝓖 .A) S (y .0 .0) (y .0 .1) (sp (y .0 .0)) (tl (y .0 .0)) (y .0 .3)
-      (λ us. WpFn 𝓤 H (𝓣 .C) (𝓣 .Λ) f (flat (typesAt (S .params) (y .0 .0)) us) (tripleOf 𝓤 H (𝓖 .A) S c .post y)) (y .0 .4)
-      (walk W (𝓣 .C) (𝓣 .Λ) (fmOf 𝓤 H (W .laws) (tablesOf 𝓤 H 𝓜 𝓣)) known y)))
+      proved 𝓤 H 𝓜 𝓖 𝓡 γ S c sp k f closed tl (walk W (𝓣 .C) (𝓣 .Λ) (fmOf 𝓤 H (W .laws) (tablesOf 𝓤 H 𝓜 𝓣)) known)
 
 -- the locals once the answer has landed, and once its outcome is the result
 module _ {M : Type 1} (𝓤 : URA M) (H : Heap 𝓤) (A : Atoms 𝓤) (S : SessionInPlace) (P : Answering (S .struct) (S .laws)) (L : List (Item 𝓤)) (d bd : ℕ) where

@@ -7,7 +7,7 @@ use mathlib.Core.Path.{_≡_, refl, ap, _∙_}
 use native.Mathlib.Omega.{arith}
 use borrow.Author.Tests.{leb-true, eqb-true, not-false}
 use lib.Dec.{eqb}
-use lib.ListN.{length, length-append, length-take, length-drop, length-replicate}
+use lib.ListN.{length}
 use Rattle.rules.specs.declared.Kind.{Kind}
 use Rattle.rules.specs.declared.Kind.the-variants.{Data, LifeCycle, Status}
 use Rattle.rules.specs.declared.Action.{Action}
@@ -24,6 +24,7 @@ use Rattle.laws.proofs.Tests.{if-by, and-left, and-right, at-place}
 use Rattle.laws.proofs.Expressions.{expression-read}
 use Rattle.laws.proofs.Facts.{allowed, allowed-by}
 use Rattle.laws.proofs.Verdicts.{passed}
+use Rattle.laws.proofs.Puts.{put-used}
 
 -- new may stand in o's place
 pub record Fitting (o new : Object) : Type 0 where
@@ -69,13 +70,14 @@ value-of-allowed lcso t (f ∷ fs) v h e =
     ap (field-allowed lcso) (λ i. record { tag = eqb-true t (f .tag) q i; value = p i }) ∙ and-left (field-allowed lcso f) _ h)
     (λ q. value-of-allowed lcso t fs v (and-right (field-allowed lcso f) _ h)) e
 
-fields-fit : (o : Object) (fs : List Field) → object-allowed o ≡ true → fields-allowed (o .lcso) fs ≡ true → Fitting o (with-fields fs o)
+-- fields that are allowed at any LcsO: which states come after it is not asked here
+pub fields-fit : (lcso : ℕ) (o : Object) (fs : List Field) → object-allowed o ≡ true → fields-allowed lcso fs ≡ true → Fitting o (with-fields fs o)
 unfolding with-fields sent-state field-allowed may-become
-fields-fit o fs h g =
+fields-fit lcso o fs h g =
     let a = allowed o h in
     let state : is-state (sent-state (value-of 0xC0 fs) (o .lcso)) ≡ true =
     elim (value-of 0xC0 fs) as (λ m. value-of 0xC0 fs ≡ m → is-state (sent-state m (o .lcso)) ≡ true)
-    [ none ↦ λ e. a .state | some v ↦ λ e. let f = value-of-allowed (o .lcso) 0xC0 fs v g e in search (and-left, and-right) ] refl in
+    [ none ↦ λ e. a .state | some v ↦ λ e. let f = value-of-allowed lcso 0xC0 fs v g e in search (and-left, and-right) ] refl in
     let change = sent-allowed (value-of 0xD0 fs) (o .change) (a .change) in
     let read = sent-allowed (value-of 0xD1 fs) (o .read) (a .read) in
     let execute = sent-allowed (value-of 0xD3 fs) (o .execute) (a .execute) in
@@ -95,10 +97,10 @@ not-never false see lcso e g = refl
 
 written : (old c : List ℕ) (o : Object) (see : Seen) (new : Object) → object-allowed o ≡ true → length old ≤ o .maximum →
     writing old c o see .verdict ≡ Accepted → writing old c o see .stores ≡ some new → Fitting o new
-unfolding writing put-at
+unfolding writing
 written old c o see new h l v e =
     let within = leb-true (offset c + length (sent-data c)) (o .maximum) (not-false _ (passed _ _ _ v .0)) in
-    let fits : length (put-at (offset c) (sent-data c) old) ≤ o .maximum = simp (length-append, length-take, length-drop, length-replicate) (omega arith) in
+    let fits : length (put-at (offset c) (sent-data c) old) ≤ o .maximum = omega (arith, put-used (offset c) (sent-data c) old) in
     rw (not-chosen (of-session (o .kind)) _ new e .1) at (content-fits (put-at (offset c) (sent-data c) old) o h fits)
 
 -- what an accepted action stores fits
@@ -112,7 +114,7 @@ operation-fitting EraseAndWrite c o see new h v e = written [] c o see new h (om
 operation-fitting SetMetadata c o see new h v e =
     let fs = sent-fields (sent-metadata c) in
     let q : with-fields fs o ≡ new = cc in
-    rw q at (fields-fit o fs h (unfold metadata-allowed in at-place _ (not-false _ (passed _ _ _ v .0)) 3))
+    rw q at (fields-fit (o .lcso) o fs h (unfold metadata-allowed in at-place _ (not-false _ (passed _ _ _ v .0)) 3))
 
 -- and nothing is stored in the place of an object of the session
 pub operation-outside : (a : Action) (c : List ℕ) (o : Object) (see : Seen) (new : Object) → granted a o see ≡ true →

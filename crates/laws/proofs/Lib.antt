@@ -5,11 +5,11 @@ pub mod Facts
 pub mod Inverse
 pub mod Fields
 pub mod Places
+pub mod Puts
 pub mod Verdicts
 pub mod Rows
 pub mod Named
 pub mod Fitting
 pub mod Views
 pub mod Keeps
-pub mod Puts
 pub mod Factory

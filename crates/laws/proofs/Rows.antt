@@ -40,7 +40,6 @@ line-cmd (l ∷ ls) c p =
 
 -- a line of an action: InData takes in the object, and only later steps judge it
 pub record ObjectLine (l : Line) : Type 0 where
-  pub gets-or-sets : among (0x01 ∷ 0x02 ∷ []) (l .cmd) ≡ true
   pub known : known-cmd command-table (l .cmd) ≡ true
   pub not-open : eqb (l .cmd) 0x70 ≡ false
   pub takes-object : 2 ≤ l .sizes .least
@@ -63,7 +62,6 @@ cmd-is c = line-cmd command-table (cmd c) (param c)
 
 -- a command that gets or sets: what the steps 4, 5, 6 and 8 see of it
 pub record OnAnObject (c : List ℕ) : Type 0 where
-  pub reads-or-writes : among (0x01 ∷ 0x02 ∷ []) (cmd c) ≡ true
   pub cmd-known : unknown-cmd c ≡ false
   pub not-open : eqb (cmd c) 0x70 ≡ false
   pub param-known : unknown-param c ≡ false

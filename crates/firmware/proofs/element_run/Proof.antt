@@ -8,7 +8,8 @@ use base.Logic.{id⊢}
 use denote.Builtin.{u8, usize}
 use Rattle.firmware.proofs.HostSession as T
 use Rattle.firmware.proofs.HostSession.Laws as T′
-use Rattle.in_place.proofs.InPlace.{keeps, shared, changed, AllTokens, With, low, begins, takes, again, gives, in-place, let-go, meets}
+use Rattle.walks.proofs.Walks.{gives}
+use Rattle.in_place.proofs.InPlace.{keeps, shared, changed, AllTokens, With, low, begins, takes, again, in-place, let-go, meets}
 use types.Kit.{‵, _$_, _∵_, !, qed}
 use types.Run.{init, no-more, params1, pass1, pass0, free0}
 use Rattle.runs.specs.Lists.{lent}

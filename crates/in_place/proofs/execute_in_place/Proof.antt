@@ -11,7 +11,8 @@ use Rattle.rules.proofs.Session as T
 use Rattle.rules.proofs.Session.Laws as T′
 use Rattle.element.proofs.Answer as N
 use Rattle.element.proofs.Answer.Laws as N′
-use Rattle.in_place.proofs.InPlace.{Answering, keeps, shared, changed, AllTokens, With, begins, takes, again, gives, in-place, let-go, meets}
+use Rattle.walks.proofs.Walks.{gives}
+use Rattle.in_place.proofs.InPlace.{Answering, keeps, shared, changed, AllTokens, With, begins, takes, again, in-place, let-go, meets}
 use types.Kit.{‵, _$_, _∵_, !, qed}
 use types.Run.{init, no-more, params1, pass1, pass0, free0}
 use denote.Ref.{ptr-vals}

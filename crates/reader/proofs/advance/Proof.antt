@@ -43,7 +43,8 @@ use Rattle.reader.proofs.MetadataReader as T
 use Rattle.reader.proofs.MetadataReader.Laws as T′
 use Rattle.reader.proofs.Next as N
 use Rattle.reader.proofs.Next.Laws as N′
-use Rattle.reader.proofs.Reading.{Lent, passing, α, B, Held, Token, silent, reader-left, proved, leaves, gives, let-go, asked, answers, made, opened}
+use Rattle.walks.proofs.Walks.{proved, leaves, gives}
+use Rattle.reader.proofs.Reading.{Lent, passing, α, B, Held, Token, silent, reader-left, let-go, asked, answers, made, opened}
 use Rattle.reader.proofs.field_at as field
 use Rattle.reader.proofs.field_at.Symbol as field-def
 use Rattle.reader.proofs.field_at.Symbol.{name as #field-at}

@@ -28,7 +28,8 @@ use denote.Triple.Spec.{tripleOf}
 use Rattle.reader.specs.declared.MetadataReader.{MetadataReader}
 use Rattle.reader.proofs.MetadataReader as T
 use Rattle.reader.proofs.MetadataReader.Laws as T′
-use Rattle.reader.proofs.Reading.{lent, passed, Passed, passing, Held, Token, silent, proved, leaves, made, gives, let-go}
+use Rattle.walks.proofs.Walks.{proved, leaves, gives}
+use Rattle.reader.proofs.Reading.{lent, passed, Passed, passing, Held, Token, silent, made, let-go}
 use Rattle.reader.proofs.reader_at.Key.{name as #reader-at}
 use Rattle.reader.proofs.reader_at as f
 use Rattle.reader.proofs.reader_at.Statement as stated

@@ -50,7 +50,8 @@ use Rattle.reader.proofs.Next as N
 use Rattle.reader.proofs.Next.Laws as N′
 use Rattle.reader.proofs.Step as S
 use Rattle.reader.proofs.Step.Laws as S′
-use Rattle.reader.proofs.Reading.{lent, passed, Passed, passing, lasting, α, B, Token, silent, reader-left, proved, leaves, gives, let-go, answers}
+use Rattle.walks.proofs.Walks.{proved, leaves, gives}
+use Rattle.reader.proofs.Reading.{lent, passed, Passed, passing, lasting, α, B, Token, silent, reader-left, let-go, answers}
 use Rattle.reader.proofs.reader_at as reader
 use Rattle.reader.proofs.reader_at.Symbol as reader-def
 use Rattle.reader.proofs.reader_at.Symbol.{name as #reader-at}

@@ -1,0 +1,1 @@
+// No code: this crate is what proofs by hand share, in proofs/.
