@@ -31,8 +31,8 @@ module _ (sizes : List ℕ) (count i left : ℕ) (w : Bool) (among : i < count) 
   pub too-large : i < length sizes → left < getD sizes i 0 → false ≡ w
   too-large h l = rw (next, lt-ltb 0 (length sizes - i) (omega arith), lt-leb (getD sizes i 0) left l)
 
-  pub fitting : i < length sizes → getD sizes i 0 ≤ left → w ≡ all-fit (count - (i + 1)) (drop (i + 1) sizes) (left - getD sizes i 0)
-  fitting h l = next ∙ rw (lt-ltb 0 (length sizes - i) (omega arith), le-leb (getD sizes i 0) left l) refl
+  pub one-fits : i < length sizes → getD sizes i 0 ≤ left → w ≡ all-fit (count - (i + 1)) (drop (i + 1) sizes) (left - getD sizes i 0)
+  one-fits h l = next ∙ rw (lt-ltb 0 (length sizes - i) (omega arith), le-leb (getD sizes i 0) left l) refl
 
 -- none is left to look at
 pub all-seen : (sizes : List ℕ) (count i left : ℕ) (w : Bool) → count ≤ i → w ≡ all-fit (count - i) (drop i sizes) left → true ≡ w

@@ -20,7 +20,7 @@ use Rattle.rules.specs.Factory.{factory-store, fresh-session, factory-made}
 use Rattle.rules.specs.Operation.{Operation}
 use Rattle.rules.specs.Step.{After, declined, performed, answered, judged, unanswered, step}
 use Rattle.rules.specs.Program.{digit, upper-hex, line, response-in, answer-line, lines, printed}
-use Rattle.listing.specs.Text.{in-front, fitting, Put}
+use Rattle.listing.specs.Text.{in-front, shown-size, Put}
 use Rattle.listing.proofs.Texts.{Onward, put-next, onward, onward-last, onward-end, take-min}
 
 -- the outcome is one digit ------------------------------------------------------------------------------------------------------
@@ -130,8 +130,8 @@ module _ (input all o₀ store o : List ℕ) (s : Session) (at next : ℕ) (w : 
 
 -- `print_all` -------------------------------------------------------------------------------------------------------------------
 
-pub shown : (text o after : List ℕ) (n : ℕ) → Put 0 text o after n → (n ≡ fitting text o) × (after ≡ in-front text o)
-unfolding fitting
+pub shown : (text o after : List ℕ) (n : ℕ) → Put 0 text o after n → (n ≡ shown-size text o) × (after ≡ in-front text o)
+unfolding shown-size
 shown text o after n p = (p .count ∙ rw zero-add, p .bytes)
 
 abbrev too-long : List ℕ

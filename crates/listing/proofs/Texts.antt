@@ -9,7 +9,7 @@ use lib.ListN.{length, take, drop, set, length-append, length-take, length-drop,
 use lib.Seq.{drop-drop, set-split, take-all, take-at, drop-at, take-nil, drop-nil}
 use Rattle.primitives.specs.Bytes.{over}
 use Rattle.primitives.proofs.Over.{over-length}
-use Rattle.listing.specs.Text.{in-front, fitting, Put}
+use Rattle.listing.specs.Text.{in-front, shown-size, Put}
 
 -- a text is cut at the end of an output: the front of two texts
 take-two : (o a b : List ℕ) → take (length o) (a ++ b) ≡ take (length o) a ++ take (length (drop (length a) o)) b
@@ -101,9 +101,9 @@ pub onward-start : (at : ℕ) (all o : List ℕ) → Onward at all o at all o
 onward-start at all o = record { then = λ after n p. p }
 
 -- for a caller that shows what was put: its count lies within the output
-pub fitting-within : (text o after : List ℕ) (n : ℕ) → n ≡ fitting text o → after ≡ in-front text o → n ≤ length after
-unfolding fitting in-front
-fitting-within text o after n e f = rw f (simp (length-append, length-take, length-drop) (omega arith))
+pub size-within : (text o after : List ℕ) (n : ℕ) → n ≡ shown-size text o → after ≡ in-front text o → n ≤ length after
+unfolding shown-size in-front
+size-within text o after n e f = rw f (simp (length-append, length-take, length-drop) (omega arith))
 
-pub fitting-count : (text o after : List ℕ) (n : ℕ) → n ≡ fitting text o → after ≡ in-front text o → n ≡ length (take n after)
-fitting-count text o after n e f = simp length-take (omega (arith, fitting-within text o after n e f))
+pub size-count : (text o after : List ℕ) (n : ℕ) → n ≡ shown-size text o → after ≡ in-front text o → n ≡ length (take n after)
+size-count text o after n e f = simp length-take (omega (arith, size-within text o after n e f))

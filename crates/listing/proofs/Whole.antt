@@ -7,12 +7,12 @@ use lib.ListN.{length, take, drop}
 use lib.Seq.{take-all, take-at}
 use Rattle.rules.specs.Program.{printed}
 use Rattle.demands.proofs.Printed.{printed-fits}
-use Rattle.listing.specs.Text.{in-front, fitting}
+use Rattle.listing.specs.Text.{in-front, shown-size}
 
 -- what `print_all` answers and leaves in such an output
-module _ (input o after : List ℕ) (n : ℕ) (l : 4112384 ≤ length o) (e : n ≡ fitting (printed input) o) (f : after ≡ in-front (printed input) o) where
+module _ (input o after : List ℕ) (n : ℕ) (l : 4112384 ≤ length o) (e : n ≡ shown-size (printed input) o) (f : after ≡ in-front (printed input) o) where
   pub whole-count : n ≡ length (printed input)
-  unfolding fitting
+  unfolding shown-size
   whole-count = omega (arith, l, e, printed-fits input)
 
   pub whole-text : take n after ≡ printed input

@@ -11,8 +11,8 @@ unfoldable pub in-front : List ℕ → List ℕ → List ℕ
 in-front text output = take (length output) text ++ drop (length text) output
 
 -- how many bytes of the text that is
-unfoldable pub fitting : List ℕ → List ℕ → ℕ
-fitting text output = min (length text) (length output)
+unfoldable pub shown-size : List ℕ → List ℕ → ℕ
+shown-size text output = min (length text) (length output)
 
 -- `after` and `next` are what is left of the output, and the place past the text, where a text is put at a place of it
 pub record Put (at : ℕ) (text output after : List ℕ) (next : ℕ) : Type 0 where
@@ -30,4 +30,4 @@ Puts at text output next = Put at text (now (output .entry)) (now (output .exit)
 
 -- as much of a text as fits stands in front of the output: n bytes
 abbrev pub Shows : List ℕ → Slice → ℕ → Type 0
-Shows text output n = (n ≡ fitting text (now (output .entry))) × (now (output .exit) ≡ in-front text (now (output .entry)))
+Shows text output n = (n ≡ shown-size text (now (output .entry))) × (now (output .exit) ≡ in-front text (now (output .entry)))

@@ -8,7 +8,7 @@ use lib.Seq.{take-at, drop-at}
 use Rattle.mixing.specs.Runs.{All}
 use Rattle.rules.specs.Basic.{zeros}
 use Rattle.rules.specs.Run.{Turn, Kept}
-use Rattle.runs.specs.Lists.{cut, turns, Given, laid-out, Fitting, InTypes}
+use Rattle.runs.specs.Lists.{cut, turns, Given, laid-out, Representable, InTypes}
 
 -- the commands of the layout are the list's
 cut-back : (ts : List Turn)
@@ -54,7 +54,7 @@ laid-out-given ts k =
 
 -- every list of commands whose bytes are bytes and whose sizes fit: there are buffers, of the parameters' types, whose commands are
 -- exactly these
-pub every-list-laid-out : (ts : List Turn) (k : Kept) → Fitting ts → InTypes (laid-out ts k) × Given ts k (laid-out ts k)
+pub every-list-laid-out : (ts : List Turn) (k : Kept) → Representable ts → InTypes (laid-out ts k) × Given ts k (laid-out ts k)
 every-list-laid-out ts k h =
     let sizes : length (map (λ (t : Turn). length (t .command)) ts) ≡ length ts = simp length-map in
     let spaces : length (map (λ (t : Turn). length (t .room)) ts) ≡ length ts = simp length-map in

@@ -14,7 +14,7 @@ use Rattle.rules.specs.Hex.{ascii, digits, pairs, hex}
 use Rattle.rules.specs.Run.{Turn}
 use Rattle.laws.proofs.Tests.{and-left, and-right}
 use Rattle.demands.proofs.Witnesses.{room, P3, P4, last-byte, last-byte-back, on-F1D0, on-F1E0, in-turn, taken-in-turn, two-lists, begun}
-use Rattle.runs.specs.Lists.{Given, by-rules, laid-out, Fitting, InTypes}
+use Rattle.runs.specs.Lists.{Given, by-rules, laid-out, Representable, InTypes}
 use Rattle.runs.specs.Demand.{SideBySide, LibraryRun, library-run, IsRun, ran}
 use Rattle.runs.proofs.LaidOut.{laid-out-given, every-list-laid-out}
 use Rattle.runs.proofs.Demand3.{runs-mix}
@@ -25,7 +25,7 @@ unfolding all
 bytes [] h = tt
 bytes (n ∷ l) h = (ltb-true n 256 (and-left (ltb n 256) _ h), bytes l (and-right (ltb n 256) _ h))
 
-pub in-turn-fits : Fitting in-turn
+pub in-turn-fits : Representable in-turn
 unfolding in-turn P3 P4 last-byte last-byte-back room hex pairs digits ascii all flatMap
 in-turn-fits =
     let commands : length (flatMap (λ (t : Turn). t .command) in-turn) ≡ 45 = refl in

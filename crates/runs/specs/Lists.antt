@@ -98,7 +98,7 @@ laid-out ts k =
     }
 
 -- the commands' and the rooms' bytes are bytes, and there are no more of them than slices hold
-pub record Fitting (ts : List Turn) : Type 0 where
+pub record Representable (ts : List Turn) : Type 0 where
   pub command-bytes : All (λ t. All (λ n. n < 256) (t .command)) ts
   pub room-bytes : All (λ t. All (λ n. n < 256) (t .room)) ts
   pub commands-fit : length (flatMap (λ (t : Turn). t .command) ts) < 2 ^ 63

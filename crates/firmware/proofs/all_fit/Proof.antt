@@ -6,7 +6,7 @@ use native.Mathlib.Omega.{arith}
 use lib.ListN.{drop}
 use borrow.Author.Needs.{needs}
 use Rattle.firmware.specs.Lists.{all-fit}
-use Rattle.firmware.proofs.Sizes.{missing, too-large, fitting, all-seen}
+use Rattle.firmware.proofs.Sizes.{missing, too-large, one-fits, all-seen}
 use Rattle.firmware.proofs.all_fit.Statement.{statement}
 use Rattle.firmware.proofs.all_fit.Tie as tie
 
@@ -20,4 +20,4 @@ abbrev μ-loop : tie.MeasureT-loop
 pub all-fit-spec : {M : Type 1} → statement M
 all-fit-spec = tie.close (tie.spec
     Inv-loop μ-loop (λ c. rw sub-zero refl) (λ c. search missing) (λ c. search needs) (λ c. search needs)
-    (λ c. search too-large) (λ c. search needs) (λ c. omega arith) (λ c. search fitting) (λ c. search all-seen))
+    (λ c. search too-large) (λ c. search needs) (λ c. omega arith) (λ c. search one-fits) (λ c. search all-seen))
