@@ -9,7 +9,7 @@ use lib.ListN.{length, getD, drop}
 use Rattle.laws.proofs.Tests.{and-assoc}
 use Rattle.rules.specs.declared.Session.{Session}
 use Rattle.rules.specs.declared.Action.{Action}
-use Rattle.rules.specs.declared.Action.the-variants.{GetMetadata, SetMetadata}
+use Rattle.rules.specs.declared.Action.the-variants.{SetMetadata}
 use Rattle.rules.specs.declared.Slot.{Slot}
 use Rattle.rules.specs.declared.Slot.the-variants.{Change}
 use Rattle.rules.specs.Basic.{if_then_else_, is-some}
@@ -17,7 +17,7 @@ use Rattle.rules.specs.Expression.{Condition, Group, just, _and_, Groups, only,
 use Rattle.rules.specs.Expression.{condition-bytes, group-bytes, groups-bytes, expression-bytes}
 use Rattle.rules.specs.Expression.{read-expression, expression}
 use Rattle.rules.specs.Access.{Seen, seen, seen-in, present, condition-holds, group-holds, groups-hold, holds, asked, granted}
-use Rattle.rules.specs.Object.{expression-in}
+use Rattle.rules.specs.Object.{expression-in, of-session}
 use Rattle.laws.proofs.Named.{holds-alike}
 use Rattle.record.proofs.Standing.{stored-kind}
 use Rattle.laws.proofs.Expressions.{groups-length, groups-two, read-bytes}
@@ -120,9 +120,11 @@ module _ (p : ℕ) (b : List ℕ) (t : Stored p b) where
   set-asks = rw (stored-kind p b t)
 
   module _ (a : Action) (s : Session) where
-    pub free : a ≡ GetMetadata → true ≡ granted a (object-at p b) (seen-in b s)
-    unfolding granted asked holds
-    free e = rw (e, stored-kind p b t)
+    -- where it is free of a stored object
+    pub free : (v : Action) → a ≡ v → asked v (object-at p b) ≡ (if of-session (object-at p b .kind) then never else always) →
+        true ≡ granted a (object-at p b) (seen-in b s)
+    unfolding granted holds
+    free v e q = rw (e, q, stored-kind p b t)
 
     -- where it asks what a slot holds
     pub by-slot : (v : Action) (w : Slot) (lcso : ℕ) (r : Bool) → a ≡ v → asked v (object-at p b) ≡ expression-in w (object-at p b) →

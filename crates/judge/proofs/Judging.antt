@@ -1,7 +1,7 @@
 -- Steps 10 to 13, action by action, at an object of the session and at a found record.
 use Prim.Native.Nat.{ℕ, _+_}
 use mathlib.Core.Path.{_≡_, refl, sym, _∙_}
-use mathlib.Core.Bool.{Bool, true, false, not, false≢true}
+use mathlib.Core.Bool.{Bool, true, false, not}
 use mathlib.Core.List.{List}
 use mathlib.Core.Option.{some}
 use borrow.Author.Tests.{leb-true}
@@ -9,7 +9,7 @@ use lib.Dec.{leb}
 use lib.ListN.{length, getD}
 use lib.Seq.{getD-drop}
 use Rattle.rules.specs.declared.Kind.{Kind}
-use Rattle.rules.specs.declared.Kind.the-variants.{Data, LifeCycle, Status}
+use Rattle.rules.specs.declared.Kind.the-variants.{LifeCycle}
 use Rattle.rules.specs.declared.ObjectNumber.{ObjectNumber}
 use Rattle.rules.specs.declared.Verdict.{Verdict}
 use Rattle.rules.specs.declared.Verdict.the-variants.{Accepted}
@@ -19,7 +19,7 @@ use Rattle.rules.specs.declared.Action.{Action}
 use Rattle.rules.specs.declared.Action.the-variants.{GetData, GetMetadata, Write, EraseAndWrite, SetMetadata}
 use Rattle.rules.specs.Command.{offset, asked-length, sent-data, sent-metadata}
 use Rattle.rules.specs.Expression.{may-become}
-use Rattle.rules.specs.Object.{Object, used, is, of-session, kind-number}
+use Rattle.rules.specs.Object.{Object, used, is, of-session}
 use Rattle.rules.specs.Metadata.{metadata-allowed}
 use Rattle.rules.specs.Session.{session-change, session-object}
 use Rattle.rules.specs.Chain.{_refused_or_, _and-then_}
@@ -90,21 +90,23 @@ module _ (c : List ℕ) (o : Object) (see : Seen) (room : ℕ) where
 
 -- at an object of the session -----------------------------------------------------------------------------------------------
 
--- a write
-state-judged : (c : List ℕ) (n byte : ℕ) (k : Kind) (see : Seen) (room : ℕ) → of-session k ≡ true →
+-- a write: of the kind, only whether it is a life cycle counts
+state-judged : (c : List ℕ) (n byte : ℕ) (k : Kind) (see : Seen) (room : ℕ) →
     state-verdict c k byte room ≡ late (ruling-on Write c (some (session-object n k byte)) see) room
-unfolding of-session is kind-number late ruling-on granted asked session-object session-change holds operation value-allowed _refused_or_ _and-then_
-state-judged c n byte Data see room of = absurd (false≢true of)
-state-judged c n byte LifeCycle see room of = simp then-later
-state-judged c n byte Status see room of = refl
+unfolding late ruling-on granted asked session-object session-change holds operation value-allowed _refused_or_ _and-then_
+state-judged c n byte k see room = by (is LifeCycle k) refl
+  where
+    by : (t : Bool) → is LifeCycle k ≡ t → state-verdict c k byte room ≡ late (ruling-on Write c (some (session-object n k byte)) see) room
+    by true e = rw e (simp then-later)
+    by false e = rw e
 
 module _ (c : List ℕ) (n byte : ℕ) (k : Kind) (see : Seen) (room : ℕ) (of : of-session k ≡ true) where
   pub session-judged : (a : Action) → session-verdict a c k byte room ≡ late (ruling-on a c (some (session-object n k byte)) see) room
   unfolding late ruling-on operation granted asked session-object holds _refused_or_ _and-then_
   session-judged GetData = get-own c (session-object n k byte) see room ∙ sym (judged c (session-object n k byte) see room GetData)
   session-judged GetMetadata = rw of
-  session-judged Write = state-judged c n byte k see room of
-  session-judged EraseAndWrite = state-judged c n byte k see room of
+  session-judged Write = state-judged c n byte k see room
+  session-judged EraseAndWrite = state-judged c n byte k see room
   session-judged SetMetadata = rw of
 
 -- at a found record ---------------------------------------------------------------------------------------------------------
