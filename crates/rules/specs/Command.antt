@@ -111,6 +111,7 @@ is-unknown CloseApplication = false
 
 -- the parts of InData --------------------------------------------------------------------------------------------------
 
+-- the number in the fifth and sixth bytes
 unfoldable pub object-number : List ℕ → ℕ
 object-number c = big-endian-at 4 c
 
