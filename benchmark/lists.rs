@@ -1,5 +1,6 @@
 //! Lists of commands of every kind, aimed at a beginning.
 
+use reference::counter::{self, Counter};
 use reference::engine::{FLUSH, IDENTIFIER};
 use reference::generator::random::Random;
 
@@ -19,6 +20,8 @@ pub enum Kind {
     GetMetadata,
     Write(u8, usize, usize),
     WriteState,
+    WriteCounter(u8),
+    Count,
     SetState,
     SetAll,
     Open,
@@ -35,8 +38,13 @@ pub enum Kind {
     NoObject,
     Denied,
     DeniedSession,
+    CountData,
+    CountState,
     PastUsed,
     PastMaximum,
+    PartOfCounter,
+    CountAtOffset,
+    CountReached,
     BadContent,
     BadState,
     SmallRoom,
@@ -59,7 +67,7 @@ const fn refusal(name: &'static str, kind: Kind, code: u8) -> Row {
     Row { name, kind, code }
 }
 
-pub const ROWS: [Row; 33] = [
+pub const ROWS: [Row; 41] = [
     done("get data, 0 to 16 bytes", Kind::Get(0, 16)),
     done("get data, 17 to 140 bytes", Kind::Get(17, 140)),
     done("get data, 141 to 1,500 bytes", Kind::Get(141, LARGEST)),
@@ -69,6 +77,7 @@ pub const ROWS: [Row; 33] = [
     done("write, 17 to 140 bytes", Kind::Write(0x00, 17, 140)),
     done("write, 141 to 1,500 bytes", Kind::Write(0x00, 141, LARGEST)),
     done("write, life cycle", Kind::WriteState),
+    done("write, counter", Kind::WriteCounter(0x00)),
     done("erase and write, 1 to 16 bytes", Kind::Write(0x40, 1, 16)),
     done(
         "erase and write, 17 to 140 bytes",
@@ -78,6 +87,8 @@ pub const ROWS: [Row; 33] = [
         "erase and write, 141 to 1,500 bytes",
         Kind::Write(0x40, 141, LARGEST),
     ),
+    done("erase and write, counter", Kind::WriteCounter(0x40)),
+    done("count", Kind::Count),
     done("set metadata, LcsO", Kind::SetState),
     done("set metadata, LcsO and three expressions", Kind::SetAll),
     done("open", Kind::Open),
@@ -93,8 +104,13 @@ pub const ROWS: [Row; 33] = [
     refusal("01", Kind::NoObject, 0x01),
     refusal("07, stored object", Kind::Denied, 0x07),
     refusal("07, object of the session", Kind::DeniedSession, 0x07),
+    refusal("03, count, data", Kind::CountData, 0x03),
+    refusal("03, count, life cycle", Kind::CountState, 0x03),
     refusal("08, get", Kind::PastUsed, 0x08),
     refusal("08, write", Kind::PastMaximum, 0x08),
+    refusal("08, write, part of a counter", Kind::PartOfCounter, 0x08),
+    refusal("08, count, offset", Kind::CountAtOffset, 0x08),
+    refusal("08, count, threshold reached", Kind::CountReached, 0x08),
     refusal("05, last field of metadata", Kind::BadContent, 0x05),
     refusal("05, life cycle", Kind::BadState, 0x05),
     refusal("0D", Kind::SmallRoom, 0x0D),
@@ -117,6 +133,17 @@ impl Kind {
         begin
     }
 
+    /// Whether the beginning has the objects of this kind: the factory store has no counter.
+    pub fn has_objects(self, begin: &Beginning) -> bool {
+        match self {
+            Kind::WriteCounter(_) | Kind::Count | Kind::PartOfCounter | Kind::CountAtOffset => {
+                !begin.counted.is_empty()
+            }
+            Kind::CountReached => !begin.reached.is_empty(),
+            _ => true,
+        }
+    }
+
     /// Whether a mixed list may hold it: its refusal does not rest on the beginning.
     fn mixes(self) -> bool {
         !matches!(self, Kind::BadStore | Kind::BadSession | Kind::Closed)
@@ -135,7 +162,8 @@ pub fn of_kind(kind: Kind, begin: &Beginning, random: &mut Random) -> List {
 
 /// A list of all kinds, chosen evenly; after a close come a refused get and an open.
 pub fn mixed(begin: &Beginning, random: &mut Random) -> List {
-    let kinds: Vec<Kind> = ROWS.iter().map(|row| row.kind).collect();
+    let mut kinds: Vec<Kind> = ROWS.iter().map(|row| row.kind).collect();
+    kinds.retain(|kind| kind.has_objects(begin));
     let mut list = List::new();
     while list.len() < COMMANDS {
         match random.pick(&kinds) {
@@ -211,6 +239,18 @@ fn holding(objects: &[Object], length: usize, random: &mut Random) -> Object {
     random.pick(&able)
 }
 
+/// A write to all of a counter that leaves it far from its threshold.
+fn write_counter(param: u8, begin: &Beginning, random: &mut Random) -> Vec<u8> {
+    let (number, counter) = random.pick(&begin.counted);
+    let value = counter.value ^ random.below(0x10000) as u32;
+    let data = Counter { value, ..counter }.to_data();
+    set(param, number, 0, &data)
+}
+
+fn count(number: u16, offset: usize, random: &mut Random) -> Vec<u8> {
+    set(0x02, number, offset, &[random.byte()])
+}
+
 /// One of the three objects of the session.
 fn session_number(random: &mut Random) -> u16 {
     random.pick(&[0xE0C0, 0xF1C0, 0xF1C2])
@@ -244,6 +284,8 @@ fn make(kind: Kind, begin: &Beginning, random: &mut Random, turn: usize) -> (Vec
             )
         }
         Kind::WriteState => set(0x00, random.pick(&[0xE0C0, 0xF1C0]), 0, &[0x01]),
+        Kind::WriteCounter(param) => write_counter(param, begin, random),
+        Kind::Count => count(random.pick(&begin.counted).0, 0, random),
         Kind::SetState => set_metadata(writable, &[(0xC0, &[0x01])]),
         Kind::SetAll => set_all(writable, &begin.sent, &begin.sent),
         Kind::CloseOpen if turn % 2 == 0 => framed(0x71, 0x00, &[]),
@@ -269,7 +311,7 @@ fn refused(kind: Kind, begin: &Beginning, random: &mut Random) -> Vec<u8> {
             framed(0x01, 0x01, &read.number.to_be_bytes())[..random.below(6)].to_vec()
         }
         Kind::UnknownCmd => framed(random.pick(&[0x00, 0x03, 0x6F, 0x72]), 0x00, &[]),
-        Kind::UnknownParam => framed(random.pick(&[0x01, 0x02, 0x70, 0x71]), 0x02, &[0xF1, 0xD0]),
+        Kind::UnknownParam => framed(random.pick(&[0x01, 0x02, 0x70, 0x71]), 0x03, &[0xF1, 0xD0]),
         Kind::BadLength => framed(0x01, 0x00, &[0xF1, 0xD0, 0x00]),
         Kind::OtherIdentifier => framed(0x70, 0x00, b"\xD2\x76\x00\x00\x04GenAuthAppL"),
         Kind::NoObject => get(random.between(0xF300, 0xF3FF) as u16, 0, 1),
@@ -283,8 +325,16 @@ fn refused(kind: Kind, begin: &Beginning, random: &mut Random) -> Vec<u8> {
             1 => framed(0x01, 0x01, &session_number(random).to_be_bytes()),
             _ => set_metadata(session_number(random), &[(0xC0, &[0x01])]),
         },
+        Kind::CountData => count(written.number, 0, random),
+        Kind::CountState => count(random.pick(&[0xE0C0, 0xF1C0]), 0, random),
         Kind::PastUsed => get(read.number, random.between(0, read.used), read.used + 1),
         Kind::PastMaximum => set(0x00, written.number, written.maximum, &[0x00]),
+        Kind::PartOfCounter => {
+            let part = random.bytes(counter::SIZE - 1);
+            set(0x00, random.pick(&begin.counted).0, random.below(2), &part)
+        }
+        Kind::CountAtOffset => count(random.pick(&begin.counted).0, 1, random),
+        Kind::CountReached => count(random.pick(&begin.reached).0, 0, random),
         Kind::BadContent => set_all(written.number, &begin.sent, &[0xE1, 0xFC, 0x04]),
         Kind::BadState => set(0x00, random.pick(&[0xE0C0, 0xF1C0]), 0, &[0x02]),
         _ => get_data(read, read.used.min(16), random),

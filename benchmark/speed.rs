@@ -211,6 +211,9 @@ fn kinds(title: &str, begin: &Beginning) {
     let random = &mut Random::new(1);
     heading(title, "commands");
     for lists::Row { name, kind, code } in ROWS {
+        if !kind.has_objects(begin) {
+            continue;
+        }
         let from = kind.begin(begin);
         let list = lists::of_kind(kind, &from, random);
         expect(name, &list, &from, code);

@@ -1,8 +1,9 @@
 //! The stores that are measured, with what the lists need to know of them.
 
+use reference::counter::{self, Counter, Direction};
 use reference::factory::{FACTORY_OBJECTS, FACTORY_SIZE};
 use reference::generator::random::Random;
-use reference::store::{DATA, LARGEST_STORE, SLOT_SIZE};
+use reference::store::{RecordKind, DATA, LARGEST_STORE, SLOT_SIZE};
 use reference::{fresh_session, make_factory_store, Session};
 
 pub const LARGEST: usize = 1_500;
@@ -24,6 +25,10 @@ pub struct Beginning {
     pub read: Vec<Object>,
     /// Objects that take writes.
     pub written: Vec<Object>,
+    /// Counters of both directions, as they begin: far from their thresholds.
+    pub counted: Vec<(u16, Counter)>,
+    /// Counters of both directions, at their thresholds or past them, never written to.
+    pub reached: Vec<(u16, Counter)>,
     /// An object that grants nothing.
     pub locked: Object,
     /// The expression that a metadata write brings.
@@ -46,10 +51,26 @@ pub const LONG_ONES: [&[u8]; 3] = [LONGEST; 3];
 
 /// The record of an object, with random bytes in use.
 pub fn record(object: Object, expressions: [&[u8]; 3], random: &mut Random) -> Vec<u8> {
+    let data = random.bytes(object.used);
+    record_of(RecordKind::Data, object, expressions, &data)
+}
+
+fn counter_record(object: Object, counter: Counter, expressions: [&[u8]; 3]) -> Vec<u8> {
+    let kind = RecordKind::Counter(counter.direction);
+    record_of(kind, object, expressions, &counter.to_data())
+}
+
+fn record_of(kind: RecordKind, object: Object, expressions: [&[u8]; 3], data: &[u8]) -> Vec<u8> {
     let mut bytes = Vec::new();
     let size = DATA + object.maximum;
-    for number in [size, 1, object.number.into(), object.maximum, object.used] {
-        bytes.extend_from_slice(&(number as u16).to_le_bytes());
+    for number in [
+        size as u16,
+        kind.number(),
+        object.number,
+        object.maximum as u16,
+        object.used as u16,
+    ] {
+        bytes.extend_from_slice(&number.to_le_bytes());
     }
     bytes.extend_from_slice(&[0x01, 0x00]);
     for expression in expressions {
@@ -58,7 +79,7 @@ pub fn record(object: Object, expressions: [&[u8]; 3], random: &mut Random) -> V
         bytes.extend_from_slice(expression);
         bytes.resize(end, 0);
     }
-    bytes.extend(random.bytes(object.used));
+    bytes.extend_from_slice(data);
     bytes.resize(size, 0);
     bytes
 }
@@ -98,6 +119,8 @@ pub fn factory(random: &mut Random) -> Beginning {
         session: opened(),
         read: vec![full(0), full(12)],
         written,
+        counted: Vec::new(),
+        reached: Vec::new(),
         locked: objects[11],
         sent: BEFORE_OPERATIONAL.to_vec(),
     }
@@ -106,18 +129,43 @@ pub fn factory(random: &mut Random) -> Beginning {
 /// The place of the locked object in a full store.
 const LOCKED: usize = 27;
 
-/// The objects of a full store: two of the largest maximum, every second full, the others used in part.
+/// The counters of a full store, by their places.
+const COUNTERS: [(usize, Counter); 6] = [
+    (2, counter(Direction::Up, 0, u32::MAX)),
+    (7, counter(Direction::Down, u32::MAX, 0)),
+    (12, counter(Direction::Up, 600, 600)),
+    (15, counter(Direction::Down, 600, 600)),
+    (20, counter(Direction::Up, u32::MAX, 0)),
+    (23, counter(Direction::Down, 0, u32::MAX)),
+];
+
+const fn counter(direction: Direction, value: u32, threshold: u32) -> Counter {
+    Counter {
+        direction,
+        value,
+        threshold,
+    }
+}
+
+fn counter_at(place: usize) -> Option<Counter> {
+    let found = COUNTERS.iter().find(|counter| counter.0 == place);
+    found.map(|counter| counter.1)
+}
+
+/// The objects of a full store: two of the largest maximum, the counters, every second of the others full, the rest used in part.
 fn full_objects(random: &mut Random) -> Vec<Object> {
-    let rest = LARGEST_STORE - 2 * (DATA + LARGEST);
+    let rest = LARGEST_STORE - 2 * (DATA + LARGEST) - COUNTERS.len() * (DATA + counter::SIZE);
+    let others = 30 - COUNTERS.len();
     let object = |place: usize| {
         let maximum = match place {
             28 | 29 => LARGEST,
-            31 => rest - 29 * (rest / 30) - DATA,
-            _ => rest / 30 - DATA,
+            31 => rest - (others - 1) * (rest / others) - DATA,
+            _ if counter_at(place).is_some() => counter::SIZE,
+            _ => rest / others - DATA,
         };
-        let used = match place % 2 {
-            0 => maximum,
-            _ => random.below(maximum),
+        let used = match counter_at(place) {
+            None if place % 2 == 1 => random.below(maximum),
+            _ => maximum,
         };
         Object {
             number: 0xF200 + 3 * place as u16,
@@ -133,9 +181,17 @@ pub fn full(expressions: [&[u8]; 3], random: &mut Random) -> Beginning {
     let objects = full_objects(random);
     let mut store = Vec::new();
     let (mut read, mut written) = (Vec::new(), Vec::new());
+    let (mut counted, mut reached) = (Vec::new(), Vec::new());
     for (place, &object) in objects.iter().enumerate() {
         if place == LOCKED {
             store.extend(record(object, [NEVER, NEVER, expressions[2]], random));
+        } else if let Some(counter) = counter_at(place) {
+            let counters = match counter.is_reached() {
+                true => &mut reached,
+                false => &mut counted,
+            };
+            counters.push((object.number, counter));
+            store.extend(counter_record(object, counter, expressions));
         } else {
             [&mut read, &mut written][place % 2].push(object);
             store.extend(record(object, expressions, random));
@@ -147,6 +203,8 @@ pub fn full(expressions: [&[u8]; 3], random: &mut Random) -> Beginning {
         session: opened(),
         read,
         written,
+        counted,
+        reached,
         locked: objects[LOCKED],
         sent: expressions[0].to_vec(),
     }

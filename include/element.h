@@ -12,7 +12,7 @@
  * Everything else is handled: no byte of a command, a store, a session or a room, and no length, leads to anything but the answers below.
  * Where a pointer might be NULL, call the `_checked` functions at the end of this file.
  *
- * Numbers in commands and responses stand most significant byte first.
+ * Numbers in commands and responses, and in a counter's data, stand most significant byte first.
  */
 #ifndef ELEMENT_H
 #define ELEMENT_H
@@ -30,7 +30,7 @@ extern "C" {
  * that was written for the version before may have to be changed.
  */
 #define ELEMENT_VERSION_MAJOR 1
-#define ELEMENT_VERSION_MINOR 0
+#define ELEMENT_VERSION_MINOR 1
 
 /* Outcome numbers: what a call returns. */
 enum {
@@ -52,12 +52,12 @@ enum {
 enum {
     ELEMENT_NO_ERROR = 0x00,
     ELEMENT_INVALID_OBJECT = 0x01,     /* no such object */
-    ELEMENT_INVALID_PARAM = 0x03,      /* unknown Param for this Cmd */
+    ELEMENT_INVALID_PARAM = 0x03,      /* unknown Param for this Cmd, or a count of what is no counter */
     ELEMENT_INVALID_LENGTH = 0x04,     /* the command's length, or InLen, is wrong */
     ELEMENT_INVALID_DATA = 0x05,       /* metadata, life cycle value or application identifier not allowed */
     ELEMENT_INTERNAL_ERROR = 0x06,     /* the store is malformed, or LcsG or LcsA is no state */
     ELEMENT_ACCESS_DENIED = 0x07,      /* the access condition does not hold */
-    ELEMENT_BOUNDARY_EXCEEDED = 0x08,  /* past the bytes in use (get) or past the maximum (write) */
+    ELEMENT_BOUNDARY_EXCEEDED = 0x08,  /* past used (get); past the maximum, or not all of a counter (write); at the threshold, or offset not 0 (count) */
     ELEMENT_INVALID_COMMAND = 0x0A,    /* unknown Cmd */
     ELEMENT_NOT_AVAILABLE = 0x0C,      /* the application is closed, or terminated */
     ELEMENT_INSUFFICIENT_BUFFER = 0x0D /* the response does not fit the room */
@@ -81,6 +81,7 @@ enum {
  *   02 set    00 write             5 or more  object 2, offset 2, one byte or more      none
  *   02 set    40 erase and write   5 or more  object 2, offset 2, one byte or more      none
  *   02 set    01 metadata          4 or more  object 2, 20, L, then L bytes of fields   none
+ *   02 set    02 count             5          object 2, offset 2 (0), step 1            none
  *   70 open   00                   16         ELEMENT_IDENTIFIER                        none
  *   71 close  00                   0          none                                      none
  *
@@ -94,6 +95,7 @@ enum {
     ELEMENT_FLUSH = 0x80,
     ELEMENT_DATA = 0x00,           /* get, set; open and close have the same Param */
     ELEMENT_METADATA = 0x01,       /* get, set */
+    ELEMENT_COUNT = 0x02,          /* set */
     ELEMENT_ERASE_AND_WRITE = 0x40 /* set */
 };
 
@@ -127,6 +129,18 @@ enum {
     ELEMENT_FACTORY_OBJECTS = 14,
     ELEMENT_MAXIMUM_F1DX = 140, /* of each of F1D0 to F1DB */
     ELEMENT_MAXIMUM_F1EX = 1500 /* of each of F1E0 and F1E1 */
+};
+
+/*
+ * Kinds of records. A counter is an object of 8 bytes: its value in 4, then its threshold in 4. A count moves the value by its step towards the
+ * threshold, up or down by the record's kind, at most onto it, and is refused with 08 where the value is there or past it already. A write sets
+ * all 8 bytes. No command makes a counter or tells a record's kind: the host's store has it.
+ */
+enum {
+    ELEMENT_KIND_DATA = 0x0001,
+    ELEMENT_KIND_COUNTER_UP = 0x0002,
+    ELEMENT_KIND_COUNTER_DOWN = 0x0004,
+    ELEMENT_COUNTER_SIZE = 8 /* maximum and used of every counter */
 };
 
 /* Metadata tags. A field is its tag, its length in one byte, its value. */

@@ -1,6 +1,6 @@
 /*
  * Every misuse of the C interface that its types allow, each with the answer that include/element.h and docs/FORMATS.md give, written by hand;
- * then the header's helpers and constants.
+ * then the header's helpers and constants, and counters.
  * Prints the number of checks; at the first that fails, what was expected, and exits 1.
  *
  *   gcc -std=c99 -O2 -Iinclude tests/misuse.c target/staticlib/libfirmware.a -o misuse
@@ -360,7 +360,9 @@ static void check_constants(void)
         ELEMENT_ALWAYS, ELEMENT_CONDITION_LCSG, ELEMENT_CONDITION_LCSA, ELEMENT_CONDITION_LCSO, ELEMENT_EQUAL, ELEMENT_GREATER, ELEMENT_LESS,
         ELEMENT_AND, ELEMENT_OR, ELEMENT_NEVER
     };
-    expect(ELEMENT_VERSION_MAJOR == 1 && ELEMENT_VERSION_MINOR == 0, "version 1.0");
+    expect(ELEMENT_VERSION_MAJOR == 1 && ELEMENT_VERSION_MINOR == 1, "version 1.1");
+    expect(ELEMENT_KIND_DATA == 1 && ELEMENT_KIND_COUNTER_UP == 2 && ELEMENT_KIND_COUNTER_DOWN == 4, "the kinds of records");
+    expect(ELEMENT_COUNT == 2 && ELEMENT_COUNTER_SIZE == 8, "the Param of a count and the size of a counter");
     expect(memcmp(tags, "\x20\xC0\xC4\xC5\xD0\xD1\xD3", sizeof tags) == 0, "the metadata tags");
     expect(memcmp(expressions, "\x00\x70\xE0\xE1\xFA\xFB\xFC\xFD\xFE\xFF", sizeof expressions) == 0, "the bytes of expressions");
     expect(ELEMENT_MAXIMUM_F1DX == 140 && ELEMENT_MAXIMUM_F1EX == 1500 && ELEMENT_FACTORY_OBJECTS == 14, "the factory's sizes");
@@ -766,6 +768,174 @@ static void check_large_stores(void)
     }
 }
 
+/* Counters: F1D0 up, F1D1 down, and F1D2 of the same size, no counter; each always granted. */
+
+enum {
+    COUNTER_RECORD = ELEMENT_RECORD_HEAD + ELEMENT_COUNTER_SIZE,
+    UP = 0xF1D0,
+    DOWN = 0xF1D1,
+    PLAIN = 0xF1D2
+};
+
+static uint8_t counters[3 * COUNTER_RECORD];
+static uint8_t counters_due[sizeof counters];
+
+static void put_four(uint8_t *at, uint32_t number)
+{
+    for (size_t i = 0; i < 4; i++)
+        at[i] = (uint8_t)(number >> (24 - 8 * i));
+}
+
+static void put_counter(uint8_t *record, unsigned kind, unsigned object, uint32_t value, uint32_t threshold)
+{
+    memset(record, 0, COUNTER_RECORD);
+    record[0] = COUNTER_RECORD;
+    record[2] = (uint8_t)kind;
+    record[4] = (uint8_t)object;
+    record[5] = (uint8_t)(object >> 8);
+    record[6] = record[8] = ELEMENT_COUNTER_SIZE;
+    record[10] = ELEMENT_CREATION;
+    record[12] = record[40] = record[68] = 1;
+    put_four(record + ELEMENT_RECORD_HEAD, value);
+    put_four(record + ELEMENT_RECORD_HEAD + 4, threshold);
+}
+
+/* Each of the three has this value and this threshold; what is due is the same. */
+static void begin_counters(uint32_t value, uint32_t threshold)
+{
+    begin_open();
+    put_counter(counters, ELEMENT_KIND_COUNTER_UP, UP, value, threshold);
+    put_counter(counters + COUNTER_RECORD, ELEMENT_KIND_COUNTER_DOWN, DOWN, value, threshold);
+    put_counter(counters + 2 * COUNTER_RECORD, ELEMENT_KIND_DATA, PLAIN, value, threshold);
+    memcpy(counters_due, counters, sizeof counters);
+}
+
+/* Whether the command is done (number 0), or refused with the number, and leaves the store that is due. */
+static bool on_counters(const uint8_t *command, size_t length, uint8_t number)
+{
+    bool answered = element_execute(command, length, counters, sizeof counters, &now.session, now.room, ROOM) == 0;
+    bool response = number == 0 ? left(DONE, sizeof DONE, 1, OLD_ERROR) : refused(larger(number, OLD_ERROR));
+    return answered && response && memcmp(counters, counters_due, sizeof counters) == 0;
+}
+
+static bool counts(unsigned object, unsigned offset, uint8_t step, uint8_t number)
+{
+    const uint8_t command[] = {
+        ELEMENT_SET, ELEMENT_COUNT, 0x00, 0x05, (uint8_t)(object >> 8), (uint8_t)object, (uint8_t)(offset >> 8), (uint8_t)offset, step
+    };
+    return on_counters(command, sizeof command, number);
+}
+
+static void check_counts(void)
+{
+    static const struct { unsigned object; uint32_t value, threshold; uint8_t step, number; uint32_t after; } cases[] = {
+        {UP, 12, 300, 5, 0x00, 17},
+        {UP, 12, 300, 0, 0x00, 12},
+        {UP, 299, 300, 1, 0x00, 300},
+        {UP, 298, 300, 255, 0x00, 300},
+        {UP, 255, 300, 1, 0x00, 256},
+        {UP, 0xFFFFFFFE, 0xFFFFFFFF, 255, 0x00, 0xFFFFFFFF},
+        {UP, 300, 300, 1, 0x08, 300},
+        {UP, 300, 300, 0, 0x08, 300},
+        {UP, 301, 300, 1, 0x08, 301},
+        {UP, 0xFFFFFFFF, 0xFFFFFFFF, 1, 0x08, 0xFFFFFFFF},
+        {UP, 0, 0, 1, 0x08, 0},
+        {DOWN, 10, 2, 5, 0x00, 5},
+        {DOWN, 10, 2, 0, 0x00, 10},
+        {DOWN, 10, 2, 8, 0x00, 2},
+        {DOWN, 10, 2, 255, 0x00, 2},
+        {DOWN, 256, 0, 1, 0x00, 255},
+        {DOWN, 1, 0, 255, 0x00, 0},
+        {DOWN, 2, 2, 1, 0x08, 2},
+        {DOWN, 2, 2, 0, 0x08, 2},
+        {DOWN, 1, 2, 1, 0x08, 1},
+        {DOWN, 0, 0, 1, 0x08, 0},
+        {DOWN, 0, 0xFFFFFFFF, 255, 0x08, 0},
+        {PLAIN, 12, 300, 5, 0x03, 12}
+    };
+    for (size_t i = 0; i < sizeof cases / sizeof cases[0]; i++) {
+        begin_counters(cases[i].value, cases[i].threshold);
+        put_four(counters_due + (cases[i].object - UP) * COUNTER_RECORD + ELEMENT_RECORD_HEAD, cases[i].after);
+        expect(counts(cases[i].object, 0, cases[i].step, cases[i].number), "case %zu of the counts: number %02X", i, cases[i].number);
+    }
+}
+
+static void check_refused_counts(void)
+{
+    static const uint8_t no_step[] = {ELEMENT_SET, ELEMENT_COUNT, 0x00, 0x04, 0xF1, 0xD0, 0x00, 0x00};
+    static const uint8_t two_steps[] = {ELEMENT_SET, ELEMENT_COUNT, 0x00, 0x06, 0xF1, 0xD0, 0x00, 0x00, 0x01, 0x01};
+    static const uint8_t of_get[] = {ELEMENT_GET, ELEMENT_COUNT, 0x00, 0x05, 0xF1, 0xD0, 0x00, 0x00, 0x01};
+    begin_counters(5, 9);
+    expect(counts(UP, 1, 1, 0x08) && counts(UP, 0xFFFF, 1, 0x08), "refusal 08 for a count at another offset than 0");
+    begin_counters(5, 9);
+    expect(counts(PLAIN, 1, 1, 0x03), "refusal 03 for no counter before 08 for the offset");
+    begin_counters(5, 9);
+    expect(counts(ELEMENT_LCSG, 0, 1, 0x03) && counts(ELEMENT_LCSA, 0, 1, 0x03), "refusal 03 for a count of LcsG and LcsA");
+    begin_counters(5, 9);
+    expect(counts(ELEMENT_LAST_ERROR, 0, 1, 0x07), "refusal 07 for a count of the last error");
+    begin_counters(5, 9);
+    expect(counts(0xF1D3, 0, 1, 0x01), "refusal 01 for a count of no object");
+    begin_counters(5, 9);
+    expect(on_counters(no_step, sizeof no_step, 0x04) && on_counters(two_steps, sizeof two_steps, 0x04),
+        "refusal 04 for a count of no step and of two");
+    begin_counters(5, 9);
+    expect(on_counters(of_get, sizeof of_get, 0x03), "refusal 03 for a get with the Param of a count");
+    begin_counters(9, 9);
+    counters[12 + 1] = counters_due[12 + 1] = ELEMENT_NEVER;
+    expect(counts(UP, 0, 1, 0x07), "refusal 07 for the change expression before 08 for the threshold");
+    begin_counters(9, 9);
+    counters[2 * COUNTER_RECORD + 13] = counters_due[2 * COUNTER_RECORD + 13] = ELEMENT_NEVER;
+    expect(counts(PLAIN, 0, 1, 0x07), "refusal 07 for the change expression before 03 for no counter");
+}
+
+/* A write sets all 8 bytes, whatever they are. */
+static void check_counter_writes(void)
+{
+    static const uint8_t params[] = {ELEMENT_DATA, ELEMENT_ERASE_AND_WRITE};
+    uint8_t command[ELEMENT_HEADER + 4 + ELEMENT_COUNTER_SIZE + 1] = {ELEMENT_SET, 0, 0, 0, 0xF1, 0xD0};
+    memset(command + 8, 0xC3, sizeof command - 8);
+    for (size_t i = 0; i < sizeof params; i++)
+        for (uint8_t offset = 0; offset <= ELEMENT_COUNTER_SIZE; offset++)
+            for (uint8_t size = 1; size <= ELEMENT_COUNTER_SIZE + 1; size++) {
+                bool whole = offset == 0 && size == ELEMENT_COUNTER_SIZE;
+                begin_counters(5, 9);
+                command[1] = params[i];
+                command[3] = (uint8_t)(4 + size);
+                command[7] = offset;
+                if (whole)
+                    memset(counters_due + ELEMENT_RECORD_HEAD, 0xC3, ELEMENT_COUNTER_SIZE);
+                expect(on_counters(command, (size_t)(8 + size), whole ? 0x00 : 0x08),
+                    "%s for a write of %u bytes at %u of a counter", whole ? "done" : "refusal 08", size, offset);
+            }
+}
+
+static void check_kinds(void)
+{
+    for (unsigned kind = 0; kind < 256; kind++) {
+        bool known = kind == 0x01 || kind == 0x02 || kind == 0x04;
+        begin_counters(5, 9);
+        counters[2] = (uint8_t)kind;
+        expect(element_check_store(counters, sizeof counters) == known,
+            "a record of kind %02X %s", kind, known ? "well formed" : "malformed");
+        counters[2] = ELEMENT_KIND_DATA;
+        counters[3] = (uint8_t)kind;
+        expect(element_check_store(counters, sizeof counters) == (kind == 0),
+            "a record of kind %02X01 %s", kind, kind == 0 ? "well formed" : "malformed");
+    }
+    for (uint8_t kind = ELEMENT_KIND_DATA; kind <= ELEMENT_KIND_COUNTER_DOWN; kind = (uint8_t)(2 * kind))
+        for (uint8_t maximum = 7; maximum <= 9; maximum++)
+            for (uint8_t used = 7; used <= maximum; used++) {
+                uint8_t record[COUNTER_RECORD + 1] = {0};
+                bool formed = kind == ELEMENT_KIND_DATA || (maximum == 8 && used == 8);
+                put_counter(record, kind, UP, 0, 0);
+                record[0] = (uint8_t)(ELEMENT_RECORD_HEAD + maximum);
+                record[6] = maximum;
+                record[8] = used;
+                expect(element_check_store(record, (size_t)(ELEMENT_RECORD_HEAD + maximum)) == formed,
+                    "kind %u with maximum %u and used %u %s", kind, maximum, used, formed ? "well formed" : "malformed");
+            }
+}
+
 /* Lists whose sizes do not fit. */
 
 static const uint8_t LIST[] = {
@@ -926,6 +1096,10 @@ int main(void)
     check_cut_stores();
     check_long_commands();
     check_large_stores();
+    check_counts();
+    check_refused_counts();
+    check_counter_writes();
+    check_kinds();
     check_list_sizes();
     check_list_rest();
     check_list_against_single();

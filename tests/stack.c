@@ -19,6 +19,7 @@ enum {
     GAP = 512, /* between the switch of stacks and the call, so that the switch back overwrites nothing of it */
     ROUNDS = 10000,
     LIST = 64,
+    LARGE = 552, /* with it, 24 records of data and 8 counters are the largest store */
     SESSION_OBJECTS = 3
 };
 
@@ -33,8 +34,8 @@ static size_t spaces[LIST];
 static uint8_t outcomes[LIST];
 static size_t command_len, room_len, count;
 
-/* Commands that were done, and refused with a number: so that every kind is seen to be there. */
-static unsigned done, refused[256];
+/* Commands that were done, counts among them, and refused with a number: so that every kind is seen to be there. */
+static unsigned done, counted, refused[256];
 
 /* The painted stack. */
 
@@ -149,23 +150,40 @@ static size_t put_expression(uint8_t *at, size_t conditions)
     return 1 + size;
 }
 
-/* The largest store: 32 records of 512 bytes, with expressions of up to 27. */
+static void put_low_first(uint8_t *at, size_t number)
+{
+    at[0] = (uint8_t)number;
+    at[1] = (uint8_t)(number >> 8);
+}
+
+/* A record with expressions of up to 27 bytes, in zeroed bytes; a counter is any. Returns its size. */
+static size_t put_record(uint8_t *record, size_t object, uint8_t kind, size_t maximum)
+{
+    put_low_first(record, ELEMENT_RECORD_HEAD + maximum);
+    put_low_first(record + 2, kind);
+    put_low_first(record + 4, object);
+    put_low_first(record + 6, maximum);
+    record[10] = state();
+    for (size_t slot = 0; slot < 3; slot++)
+        put_expression(record + 12 + ELEMENT_SLOT * slot, below(8));
+    if (kind != ELEMENT_KIND_DATA) {
+        record[8] = ELEMENT_COUNTER_SIZE;
+        for (size_t i = 0; i < ELEMENT_COUNTER_SIZE; i++)
+            record[ELEMENT_RECORD_HEAD + i] = one_of("\x00\x00\x01\xFF", 4);
+    }
+    return ELEMENT_RECORD_HEAD + maximum;
+}
+
+/* The largest store: 32 records, every fourth a counter, the others of 552 bytes of data. */
 static void make_largest_store(void)
 {
+    size_t at = 0;
     memset(store, 0, sizeof store);
-    for (size_t i = 0; i < 32; i++) {
-        uint8_t *record = store + 512 * i;
-        record[1] = 0x02;
-        record[2] = 0x01;
-        record[4] = (uint8_t)(0xD0 + i);
-        record[5] = 0xF1;
-        record[6] = 416 % 256;
-        record[7] = 416 / 256;
-        record[10] = state();
-        for (size_t slot = 0; slot < 3; slot++)
-            put_expression(record + 12 + 28 * slot, below(8));
+    for (size_t i = 0; i < ELEMENT_MOST_RECORDS; i++) {
+        uint8_t kind = i % 4 < 3 ? ELEMENT_KIND_DATA : one_of("\x02\x04", 2);
+        at += put_record(store + at, 0xF1D0 + i, kind, kind == ELEMENT_KIND_DATA ? LARGE : ELEMENT_COUNTER_SIZE);
     }
-    store_len = sizeof store;
+    store_len = at;
 }
 
 static void begin(void)
@@ -228,12 +246,21 @@ static size_t put_get(uint8_t *in)
 
 static size_t put_write(uint8_t *in)
 {
-    static const size_t largest[] = {2, 140, 417, 1501, 1550};
+    static const size_t largest[] = {2, 9, 140, LARGE + 1, 1501, 1550};
     size_t size = put_object(in);
     size += put_number(in + size, below(2) == 0 ? 0 : below(1600));
-    size_t end = size + below(largest[below(5)]);
+    size_t end = size + below(largest[below(6)]);
     while (size < end)
         in[size++] = state();
+    return size;
+}
+
+/* Mostly of a counter of the largest store. */
+static size_t put_count(uint8_t *in)
+{
+    size_t size = below(4) == 0 ? put_object(in) : put_number(in, 0xF1D3 + 4 * below(8));
+    size += put_number(in + size, below(8) == 0);
+    in[size++] = (uint8_t)below(256);
     return size;
 }
 
@@ -248,6 +275,8 @@ static size_t put_in_data(uint8_t *in, uint8_t cmd, uint8_t param)
         return param == ELEMENT_METADATA ? put_object(in) : put_get(in);
     if (cmd == ELEMENT_SET && param == ELEMENT_METADATA)
         return put_object(in) + put_content(in + 2);
+    if (cmd == ELEMENT_SET && param == ELEMENT_COUNT)
+        return put_count(in);
     return cmd == ELEMENT_SET ? put_write(in) : 0;
 }
 
@@ -255,7 +284,7 @@ static size_t put_in_data(uint8_t *in, uint8_t cmd, uint8_t param)
 static size_t put_command(uint8_t *at)
 {
     uint8_t cmd = below(16) == 0 ? (uint8_t)below(128) : one_of("\x01\x01\x02\x02\x02\x70\x71", 7);
-    uint8_t param = cmd == ELEMENT_SET ? one_of("\x00\x40\x01", 3) : cmd == ELEMENT_GET ? one_of("\x00\x01", 2) : 0;
+    uint8_t param = cmd == ELEMENT_SET ? one_of("\x00\x40\x01\x02", 4) : cmd == ELEMENT_GET ? one_of("\x00\x01", 2) : 0;
     if (below(32) == 0)
         param = (uint8_t)below(256);
     size_t size = put_in_data(at + ELEMENT_HEADER, cmd, param);
@@ -274,11 +303,19 @@ static size_t some_space(void)
 
 /* One call with other commands; they fit what was set apart for them. */
 
+static bool is_count(void)
+{
+    return (commands[0] & ~ELEMENT_FLUSH) == ELEMENT_SET && commands[1] == ELEMENT_COUNT;
+}
+
 static void note(uint8_t outcome, uint8_t status, uint8_t error)
 {
-    if (outcome == ELEMENT_ANSWERED && status == ELEMENT_STATUS_DONE)
+    if (outcome != ELEMENT_ANSWERED)
+        return;
+    if (status == ELEMENT_STATUS_DONE) {
         done++;
-    else if (outcome == ELEMENT_ANSWERED)
+        counted += is_count();
+    } else
         refused[error]++;
 }
 
@@ -352,7 +389,7 @@ static size_t deepest(void (*attempt)(void))
     return most;
 }
 
-/* Every refusal of the header has been seen, and commands that were done. */
+/* Every refusal of the header has been seen, and commands that were done, counts among them. */
 static bool all_kinds(void)
 {
     static const uint8_t numbers[] = {0x01, 0x03, 0x04, 0x05, 0x06, 0x07, 0x08, 0x0A, 0x0C, 0x0D};
@@ -361,6 +398,10 @@ static bool all_kinds(void)
             printf("no command was refused with %02X\n", (unsigned)numbers[i]);
             return false;
         }
+    if (counted == 0) {
+        printf("no count was done\n");
+        return false;
+    }
     return done > ROUNDS / 4;
 }
 
@@ -376,6 +417,6 @@ int main(int arguments, char **words)
     }
     if (!all_kinds())
         return 1;
-    printf("%d calls of each entry on a stack of their own; of the commands %u were done, the others refused with every number\n", 2 * ROUNDS, done);
+    printf("%d calls of each entry on a stack of their own; of the commands %u were done, %u of them counts, the others refused with every number\n", 2 * ROUNDS, done, counted);
     return within ? 0 : 1;
 }

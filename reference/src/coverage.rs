@@ -1,7 +1,10 @@
 //! What the generated cases of a seed cover, judged by the reference itself.
 
+pub mod counters;
+
 use std::fmt::{self, Display, Write};
 
+use crate::counter::Direction;
 use crate::engine::{
     flush, judge, row_of, Refusal, Row, CLOSE, FLUSH, GET, HEADER, OPEN, REFUSED, SET,
 };
@@ -12,6 +15,7 @@ use crate::kinds::ObjectNumber;
 use crate::replay::{Item, State};
 use crate::session::{is_state, SessionObject, TERMINATION};
 use crate::store::{self, check_store, judge_store, Fault, Record, Slot};
+use counters::{CounterRow, Standing};
 
 /// A row of the coverage table.
 #[derive(Clone, Copy, Debug, PartialEq, Eq)]
@@ -23,11 +27,12 @@ pub enum CommandRow {
 }
 
 impl CommandRow {
-    pub const ALL: [CommandRow; 10] = [
+    pub const ALL: [CommandRow; 11] = [
         CommandRow::Known(Row::GetData),
         CommandRow::Known(Row::GetMetadata),
         CommandRow::Known(Row::Write),
         CommandRow::Known(Row::EraseAndWrite),
+        CommandRow::Known(Row::Count),
         CommandRow::Known(Row::SetMetadata),
         CommandRow::Known(Row::Open),
         CommandRow::Known(Row::Close),
@@ -54,6 +59,7 @@ impl CommandRow {
             CommandRow::Known(Row::GetMetadata) => "get metadata",
             CommandRow::Known(Row::Write) => "write",
             CommandRow::Known(Row::EraseAndWrite) => "erase and write",
+            CommandRow::Known(Row::Count) => "count",
             CommandRow::Known(Row::SetMetadata) => "set metadata",
             CommandRow::Known(Row::Open) => "open",
             CommandRow::Known(Row::Close) => "close",
@@ -112,15 +118,19 @@ pub fn unreachable(row: CommandRow, verdict: Verdict) -> Option<&'static str> {
         return unreachable_unknown(row, refusal);
     };
     let names_object = !matches!(row, Row::Open | Row::Close);
-    let has_offset = matches!(row, Row::GetData | Row::Write | Row::EraseAndWrite);
+    let has_offset = matches!(
+        row,
+        Row::GetData | Row::Write | Row::EraseAndWrite | Row::Count
+    );
     let answers_data = matches!(row, Row::GetData | Row::GetMetadata);
+    let brings_value = !answers_data && !matches!(row, Row::Count | Row::Close);
     match refusal {
         Refusal::UnknownCmd => Some("the Cmd is known"),
-        Refusal::UnknownParam => Some("the Param is known"),
+        Refusal::WrongParam if row != Row::Count => Some("the Param is known"),
         Refusal::NoSuchObject | Refusal::NoAccess if !names_object => Some("names no object"),
         Refusal::OutOfBounds if !has_offset => Some("has no offset"),
         Refusal::NoRoom if !answers_data => Some("answers with no data, 4 bytes fit"),
-        Refusal::WrongValue if answers_data || row == Row::Close => {
+        Refusal::WrongValue if !brings_value => {
             Some("brings no identifier, metadata or life cycle value")
         }
         _ => None,
@@ -160,7 +170,7 @@ fn unreachable_unknown(row: CommandRow, refusal: Refusal) -> Option<&'static str
                 Refusal::Malformed,
                 Refusal::WrongLength,
                 Refusal::OutOfSequence,
-                Refusal::UnknownParam,
+                Refusal::WrongParam,
             ],
             "its Cmd is known and step 6 refuses it at the latest",
         ),
@@ -390,6 +400,10 @@ impl Event<'_> {
                 || self.before.session.lcsg < self.after.session.lcsg;
             return chosen(&[(done && rises, Feature::LifeCycleOfSessionRises)]);
         };
+        // Counters have rows of their own.
+        if record.counter().is_some() {
+            return Vec::new();
+        }
         let (used, maximum) = (record.used(), record.maximum());
         let erases = self.row == CommandRow::Known(Row::EraseAndWrite);
         chosen(&[
@@ -431,13 +445,13 @@ impl Event<'_> {
         ])
     }
 
-    /// The object that a command judged by step 9 or later names, and its offset.
-    fn object_and_offset(&self) -> Option<(Object<'_>, usize)> {
+    /// The object that the command names, if the verdict rests on it.
+    fn object(&self) -> Option<Object<'_>> {
         let judged_by_object = match self.verdict {
             Verdict::Done => true,
             Verdict::Refused(refusal) => matches!(
                 refusal,
-                Refusal::NoAccess | Refusal::OutOfBounds | Refusal::NoRoom
+                Refusal::WrongParam | Refusal::NoAccess | Refusal::OutOfBounds | Refusal::NoRoom
             ),
             Verdict::NoResponse => false,
         };
@@ -445,14 +459,18 @@ impl Event<'_> {
             return None;
         }
         let number = ObjectNumber(number_at(self.command, 4) as u16);
-        let object = match SessionObject::from_number(number) {
-            Some(object) => Object::Session(object),
+        match SessionObject::from_number(number) {
+            Some(object) => Some(Object::Session(object)),
             None => {
                 let place = store::find(&self.before.store, number)?;
-                Object::Stored(Record::at(&self.before.store, place))
+                Some(Object::Stored(Record::at(&self.before.store, place)))
             }
-        };
-        Some((object, number_at(self.command, 6)))
+        }
+    }
+
+    /// That object, and the offset of a command that has one.
+    fn object_and_offset(&self) -> Option<(Object<'_>, usize)> {
+        Some((self.object()?, number_at(self.command, 6)))
     }
 }
 
@@ -462,8 +480,8 @@ enum Object<'s> {
     Stored(Record<'s>),
 }
 
-fn chosen(features: &[(bool, Feature)]) -> Vec<Feature> {
-    features
+fn chosen<T: Copy>(entries: &[(bool, T)]) -> Vec<T> {
+    entries
         .iter()
         .filter(|entry| entry.0)
         .map(|entry| entry.1)
@@ -536,6 +554,8 @@ pub struct Coverage {
     faults: Tally<Fault>,
     contents: Tally<Content>,
     features: Tally<Feature>,
+    counters: Tally<CounterRow>,
+    standings: Tally<(Direction, Standing)>,
     errors: Vec<String>,
 }
 
@@ -553,6 +573,8 @@ pub fn cover(seed: u64, count: usize) -> Coverage {
         faults: Tally::new(Fault::ALL),
         contents: Tally::new(Content::all()),
         features: Tally::new(Feature::ALL),
+        counters: Tally::new(CounterRow::all()),
+        standings: Tally::new(Standing::all()),
         errors: Vec::new(),
     };
     let mut state = State::empty();
@@ -593,7 +615,7 @@ impl Coverage {
     fn take_store(&mut self, store: &[u8], damage: Option<Damage>) {
         let judged = judge_store(store);
         match judged {
-            Ok(()) => self.accepted_stores += 1,
+            Ok(()) => self.take_well_formed(store),
             Err(fault) => self.faults.add(fault),
         }
         if let Some(damage) = damage {
@@ -602,6 +624,15 @@ impl Coverage {
         if judged.err() != damage.map(Damage::fault) {
             self.errors
                 .push(format!("damage {damage:?} is judged {judged:?}"));
+        }
+    }
+
+    fn take_well_formed(&mut self, store: &[u8]) {
+        self.accepted_stores += 1;
+        for (_, record) in store::records(store) {
+            for standing in Standing::of(record) {
+                self.standings.add(standing);
+            }
         }
     }
 
@@ -632,6 +663,9 @@ impl Coverage {
             after: state,
         };
         self.add_features(event.features());
+        for row in event.counter_rows() {
+            self.counters.add(row);
+        }
         if let Some(error) = disagreement(command, verdict, outcome, room, &before, state) {
             self.errors.push(format!("{error}: {command:02X?}"));
         }
@@ -660,11 +694,21 @@ impl Coverage {
             .features
             .missing()
             .map(|feature| format!("feature {feature:?}"));
+        let counters = self
+            .counters
+            .missing()
+            .map(|row| format!("counter {row:?}"));
+        let standings = self
+            .standings
+            .missing()
+            .map(|standing| format!("stored counter {standing:?}"));
         cells
             .chain(damages)
             .chain(faults)
             .chain(contents)
             .chain(features)
+            .chain(counters)
+            .chain(standings)
             .collect()
     }
 
@@ -709,7 +753,13 @@ impl Coverage {
             "metadata contents that reached step 12",
             &self.contents,
         )?;
-        put_tally(text, "boundaries and situations", &self.features)
+        put_tally(text, "boundaries and situations", &self.features)?;
+        put_tally(
+            text,
+            "counts, and other commands at counters",
+            &self.counters,
+        )?;
+        put_tally(text, "counters of well-formed stores", &self.standings)
     }
 
     fn put_unreachable(&self, text: &mut String) -> fmt::Result {

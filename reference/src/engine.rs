@@ -2,6 +2,7 @@
 
 use std::ops::Range;
 
+use crate::counter::{self, Counter};
 use crate::kinds::{end_of, Length, ObjectNumber, Offset};
 use crate::metadata::{self, Changes};
 use crate::session::{may_become, Session, SessionObject, TERMINATION};
@@ -39,7 +40,7 @@ pub struct Answer {
 #[repr(u8)]
 pub enum Refusal {
     NoSuchObject = 0x01,
-    UnknownParam = 0x03,
+    WrongParam = 0x03,
     WrongLength = 0x04,
     WrongValue = 0x05,
     Malformed = 0x06,
@@ -53,7 +54,7 @@ pub enum Refusal {
 impl Refusal {
     pub const ALL: [Refusal; 10] = [
         Refusal::NoSuchObject,
-        Refusal::UnknownParam,
+        Refusal::WrongParam,
         Refusal::WrongLength,
         Refusal::WrongValue,
         Refusal::Malformed,
@@ -76,6 +77,7 @@ pub enum Row {
     GetMetadata,
     Write,
     EraseAndWrite,
+    Count,
     SetMetadata,
     Open,
     Close,
@@ -101,6 +103,10 @@ pub enum Action<'c> {
         offset: Offset,
         bytes: &'c [u8],
         erase: bool,
+    },
+    Count {
+        record: Range<usize>,
+        counter: Counter,
     },
     SetLifeCycle {
         object: SessionObject,
@@ -160,7 +166,7 @@ pub fn judge<'c>(
     // Step 5.
     require(is_in_sequence(frame.cmd, session), Refusal::OutOfSequence)?;
     // Step 6.
-    let row = row_of(frame.cmd, frame.param).ok_or(Refusal::UnknownParam)?;
+    let row = row_of(frame.cmd, frame.param).ok_or(Refusal::WrongParam)?;
     // Step 7.
     require(
         is_length_of_row(row, frame.in_data.len()),
@@ -173,6 +179,7 @@ pub fn judge<'c>(
         Row::GetMetadata => judge_get_metadata(in_data, store, room),
         Row::Write => judge_write(in_data, store, session, false),
         Row::EraseAndWrite => judge_write(in_data, store, session, true),
+        Row::Count => judge_count(in_data, store, session),
         Row::SetMetadata => judge_set_metadata(in_data, store, session),
         Row::Open => judge_open(in_data),
         Row::Close => Ok(Action::Close),
@@ -225,6 +232,7 @@ pub fn row_of(cmd: u8, param: u8) -> Option<Row> {
         (GET, 0x01) => Some(Row::GetMetadata),
         (SET, 0x00) => Some(Row::Write),
         (SET, 0x40) => Some(Row::EraseAndWrite),
+        (SET, 0x02) => Some(Row::Count),
         (SET, 0x01) => Some(Row::SetMetadata),
         (OPEN, 0x00) => Some(Row::Open),
         (CLOSE, 0x00) => Some(Row::Close),
@@ -237,6 +245,7 @@ fn is_length_of_row(row: Row, in_len: usize) -> bool {
         Row::GetData => in_len == 6,
         Row::GetMetadata => in_len == 2,
         Row::Write | Row::EraseAndWrite => in_len >= 5,
+        Row::Count => in_len == 5,
         Row::SetMetadata => in_len >= 4,
         Row::Open => in_len == IDENTIFIER.len(),
         Row::Close => in_len == 0,
@@ -332,7 +341,7 @@ fn judge_write<'c>(
         Object::Stored(place) => {
             let record = Record::at(store, place.clone());
             require(record.grants(Slot::Change, session), Refusal::NoAccess)?;
-            require_within(offset, Length(bytes.len()), record.maximum())?;
+            require_write_fits(record, offset, Length(bytes.len()))?;
             Ok(Action::Write {
                 record: place,
                 offset,
@@ -340,6 +349,17 @@ fn judge_write<'c>(
                 erase,
             })
         }
+    }
+}
+
+/// Step 11 of a write to a stored object; a counter takes all of its data only.
+fn require_write_fits(record: Record<'_>, offset: Offset, length: Length) -> Result<(), Refusal> {
+    match record.counter() {
+        None => require_within(offset, length, record.maximum()),
+        Some(_) => require(
+            offset == Offset(0) && length == Length(counter::SIZE),
+            Refusal::OutOfBounds,
+        ),
     }
 }
 
@@ -355,6 +375,27 @@ fn judge_session_write<'c>(
     let state = bytes[0];
     require(may_become(session.byte(object), state), Refusal::WrongValue)?;
     Ok(Action::SetLifeCycle { object, state })
+}
+
+/// Steps 9 to 11 of a count; right after access, the kind.
+fn judge_count<'c>(in_data: &[u8], store: &[u8], session: Session) -> Result<Action<'c>, Refusal> {
+    let offset = Offset(number_at(in_data, 2));
+    let step = in_data[4];
+    match find_object(in_data, store)? {
+        Object::Session(SessionObject::LastError) => Err(Refusal::NoAccess),
+        Object::Session(SessionObject::LcsG | SessionObject::LcsA) => Err(Refusal::WrongParam),
+        Object::Stored(place) => {
+            let record = Record::at(store, place.clone());
+            require(record.grants(Slot::Change, session), Refusal::NoAccess)?;
+            let counter = record.counter().ok_or(Refusal::WrongParam)?;
+            require(offset == Offset(0), Refusal::OutOfBounds)?;
+            let counter = counter.count(step).ok_or(Refusal::OutOfBounds)?;
+            Ok(Action::Count {
+                record: place,
+                counter,
+            })
+        }
+    }
 }
 
 fn judge_set_metadata<'c>(
@@ -417,6 +458,11 @@ fn perform(action: Action<'_>, store: &mut [u8], session: Session, room: &mut [u
             erase,
         } => {
             write(RecordMut::at(store, record), offset, bytes, erase);
+            answer_nothing(room, session)
+        }
+        Action::Count { record, counter } => {
+            let mut record = RecordMut::at(store, record);
+            record.data().copy_from_slice(&counter.to_data());
             answer_nothing(room, session)
         }
         Action::SetLifeCycle { object, state } => {

@@ -2,7 +2,7 @@
 
 use crate::expression::{ALWAYS, LCSO, LESS};
 use crate::session::{CREATION, OPERATIONAL};
-use crate::store::{self, Slot};
+use crate::store::{self, RecordKind, Slot};
 
 /// Object number and maximum of each factory object.
 pub const FACTORY_OBJECTS: [(u16, usize); 14] = [
@@ -53,7 +53,7 @@ pub fn make_factory_store(buffer: &mut [u8]) -> u8 {
 /// Makes a factory record in zeroed bytes.
 fn make_record(record: &mut [u8], object: u16, maximum: usize) {
     put_number(record, store::LENGTH, record.len() as u16);
-    put_number(record, store::KIND, store::OBJECT_KIND);
+    put_number(record, store::KIND, RecordKind::Data.number());
     put_number(record, store::OBJECT, object);
     put_number(record, store::MAXIMUM, maximum as u16);
     record[store::LCSO] = CREATION;

@@ -2,6 +2,7 @@
 //! responses, the object store, the session, the factory store, and the
 //! programs that run and compare lists of commands.
 
+pub mod counter;
 pub mod coverage;
 pub mod engine;
 pub mod expression;

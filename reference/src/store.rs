@@ -2,6 +2,7 @@
 
 use std::ops::Range;
 
+use crate::counter::{self, Counter, Direction};
 use crate::expression::{self, States};
 use crate::kinds::{Length, ObjectNumber, Offset};
 use crate::session::{is_state, Session, SessionObject};
@@ -24,7 +25,33 @@ pub const ZERO: usize = 11;
 pub const SLOTS: usize = 12;
 
 pub const SLOT_SIZE: usize = 28;
-pub const OBJECT_KIND: u16 = 0x0001;
+
+/// The kinds of records.
+#[derive(Clone, Copy, Debug, PartialEq, Eq)]
+pub enum RecordKind {
+    Data,
+    Counter(Direction),
+}
+
+impl RecordKind {
+    pub const ALL: [RecordKind; 3] = [
+        RecordKind::Data,
+        RecordKind::Counter(Direction::Up),
+        RecordKind::Counter(Direction::Down),
+    ];
+
+    pub const fn number(self) -> u16 {
+        match self {
+            RecordKind::Data => 0x0001,
+            RecordKind::Counter(Direction::Up) => 0x0002,
+            RecordKind::Counter(Direction::Down) => 0x0004,
+        }
+    }
+
+    pub fn from_number(number: u16) -> Option<RecordKind> {
+        Self::ALL.into_iter().find(|kind| kind.number() == number)
+    }
+}
 
 /// The three slots of a record, in their order.
 #[derive(Clone, Copy, Debug, PartialEq, Eq)]
@@ -56,6 +83,8 @@ pub enum Fault {
     SessionObject,
     Maximum,
     Used,
+    CounterMaximum,
+    CounterUsed,
     LifeCycle,
     ZeroByte,
     Expression(Slot),
@@ -65,7 +94,7 @@ pub enum Fault {
 }
 
 impl Fault {
-    pub const ALL: [Fault; 19] = [
+    pub const ALL: [Fault; 21] = [
         Fault::TooLong,
         Fault::NoRecord,
         Fault::TooManyRecords,
@@ -75,6 +104,8 @@ impl Fault {
         Fault::SessionObject,
         Fault::Maximum,
         Fault::Used,
+        Fault::CounterMaximum,
+        Fault::CounterUsed,
         Fault::LifeCycle,
         Fault::ZeroByte,
         Fault::Expression(Slot::Change),
@@ -143,15 +174,11 @@ fn split_record(bytes: &[u8]) -> Result<(Record<'_>, &[u8]), Fault> {
 
 /// Judges the fields of a record whose maximum and length are right.
 fn judge_record(record: Record<'_>) -> Result<(), Fault> {
-    if number_at(record.bytes, KIND) != OBJECT_KIND {
-        return Err(Fault::Kind);
-    }
+    let kind = record.kind().ok_or(Fault::Kind)?;
     if SessionObject::from_number(record.object()).is_some() {
         return Err(Fault::SessionObject);
     }
-    if record.used() > record.maximum() {
-        return Err(Fault::Used);
-    }
+    judge_sizes(kind, record)?;
     if !is_state(record.lcso()) {
         return Err(Fault::LifeCycle);
     }
@@ -165,6 +192,16 @@ fn judge_record(record: Record<'_>) -> Result<(), Fault> {
         return Err(Fault::DataTail);
     }
     Ok(())
+}
+
+/// Judges maximum and used, which are fixed for a counter.
+fn judge_sizes(kind: RecordKind, record: Record<'_>) -> Result<(), Fault> {
+    match kind {
+        RecordKind::Data if record.used() > record.maximum() => Err(Fault::Used),
+        RecordKind::Counter(_) if record.maximum() != counter::SIZE => Err(Fault::CounterMaximum),
+        RecordKind::Counter(_) if record.used() != counter::SIZE => Err(Fault::CounterUsed),
+        _ => Ok(()),
+    }
 }
 
 fn judge_slot(record: Record<'_>, slot: Slot) -> Result<(), Fault> {
@@ -206,6 +243,11 @@ impl<'s> Record<'s> {
         usize::from(number_at(self.bytes, LENGTH))
     }
 
+    /// The kind, unless its number is unknown.
+    fn kind(self) -> Option<RecordKind> {
+        RecordKind::from_number(number_at(self.bytes, KIND))
+    }
+
     pub fn object(self) -> ObjectNumber {
         ObjectNumber(number_at(self.bytes, OBJECT))
     }
@@ -240,6 +282,16 @@ impl<'s> Record<'s> {
     /// The part of the data that a read asks for.
     pub fn data(self, offset: Offset, length: Length) -> &'s [u8] {
         &self.bytes[DATA..][offset.0..][..length.0]
+    }
+
+    /// The counter that the record holds, if it holds one.
+    pub fn counter(self) -> Option<Counter> {
+        match self.kind()? {
+            RecordKind::Data => None,
+            RecordKind::Counter(direction) => {
+                Some(Counter::from_data(direction, &self.bytes[DATA..]))
+            }
+        }
     }
 }
 

@@ -5,7 +5,9 @@ mod common;
 use std::alloc::{GlobalAlloc, Layout, System};
 use std::cell::Cell;
 
-use common::{get_data, get_metadata, hex, set_metadata, write, Element, OPEN};
+use common::{
+    count, counter_record, get_data, get_metadata, hex, set_metadata, write, Element, OPEN,
+};
 use reference::execute;
 
 struct Counting;
@@ -31,9 +33,11 @@ static ALLOCATOR: Counting = Counting;
 
 #[test]
 fn execute_does_not_allocate() {
-    let mut element = Element::fresh();
+    let mut element = Element::with_records(&[counter_record(2, 0x1000, 7, 9)]);
     let commands = [
         hex(OPEN),
+        count(0x1000, 0, 1),
+        count(0xF1D0, 0, 1),
         write(0xF1D0, 3, &[1, 2, 3]),
         get_data(0xF1D0, 0, 6),
         get_metadata(0xF1D0),

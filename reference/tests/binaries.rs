@@ -72,4 +72,12 @@ fn generate_calls() {
     assert_eq!(coverage.status.code(), Some(1));
     let text = String::from_utf8(coverage.stdout).unwrap();
     assert!(text.contains("never occurred: get data x 0D"));
+    for missing in [
+        "count x ",
+        "counter Count",
+        "counter Write",
+        "stored counter ",
+    ] {
+        assert!(text.contains(&format!("never occurred: {missing}")));
+    }
 }

@@ -218,6 +218,30 @@ fn lists_follow_from_the_seed_and_the_index() {
     }
 }
 
+/// The commands of a list that is not cut short.
+fn commands_of(list: &[u8]) -> Vec<&[u8]> {
+    let mut commands = Vec::new();
+    let mut rest = list;
+    while let [high, low, after @ ..] = rest {
+        let length = usize::from(u16::from_be_bytes([*high, *low]));
+        let (command, after) = after.split_at(length);
+        commands.push(command);
+        rest = after;
+    }
+    commands
+}
+
+#[test]
+fn lists_hold_counts() {
+    let is_count =
+        |command: &&[u8]| command.len() == 9 && matches!(command[..4], [0x02 | 0x82, 0x02, 0, 5]);
+    for index in (0..60).filter(|&index| ListKind::of_index(index) == ListKind::Full) {
+        let list = list(9, index);
+        let counts = commands_of(&list).into_iter().filter(is_count).count();
+        assert!(counts > 0, "{index}");
+    }
+}
+
 #[test]
 fn cases_cover_every_reachable_cell() {
     let coverage = cover(1, 20_000);

@@ -3,7 +3,8 @@
 mod common;
 
 use common::{
-    command, erase_and_write, get_data, get_metadata, hex, set, set_metadata, write, Element, OPEN,
+    command, count, erase_and_write, get_data, get_metadata, hex, set, set_metadata, write,
+    Element, OPEN,
 };
 use reference::store::Slot;
 
@@ -157,6 +158,7 @@ fn step_5_closed_or_terminated() {
         get_metadata(0xF1D0),
         write(0xF1D0, 0, &[1]),
         erase_and_write(0xF1D0, 0, &[1]),
+        count(0xF1D0, 0, 1),
         set_metadata(0xF1D0, &hex("C0 01 01")),
         command(0x71, 0, &[]),
     ] {
@@ -184,7 +186,7 @@ fn step_6_unknown_param() {
     for param in 0..=255u8 {
         for (cmd, known) in [
             (0x01, &[0x00, 0x01][..]),
-            (0x02, &[0x00, 0x01, 0x40]),
+            (0x02, &[0x00, 0x01, 0x02, 0x40]),
             (0x70, &[0x00]),
             (0x71, &[0x00]),
         ] {
@@ -207,6 +209,7 @@ fn step_7_lengths_of_each_row() {
         assert_eq!(code(0x02, 0x00), row(length >= 5, 0x01), "{length}");
         assert_eq!(code(0x02, 0x40), row(length >= 5, 0x01), "{length}");
         assert_eq!(code(0x02, 0x01), row(length >= 4, 0x01), "{length}");
+        assert_eq!(code(0x02, 0x02), row(length == 5, 0x01), "{length}");
         assert_eq!(code(0x70, 0x00), row(length == 16, 0x05), "{length}");
         assert_eq!(code(0x71, 0x00), row(length == 0, 0x00), "{length}");
     }
@@ -234,6 +237,7 @@ fn step_9_no_such_object() {
         assert_eq!(element.code(&get_metadata(object)), 0x01);
         assert_eq!(element.code(&write(object, 0, &[1])), 0x01);
         assert_eq!(element.code(&erase_and_write(object, 0, &[1])), 0x01);
+        assert_eq!(element.code(&count(object, 0, 1)), 0x01);
         // A wrong 20 waits for step 12.
         assert_eq!(
             element.code(&command(0x02, 0x01, &[0xF1, 0xCF, 0, 0])),

@@ -2,7 +2,7 @@
 
 mod common;
 
-use common::{factory_store, get_metadata, Element};
+use common::{counter_record, factory_store, get_metadata, Element};
 use reference::check_store;
 use reference::generator::random::Random;
 use reference::generator::stores::{valid_store, Damage};
@@ -112,11 +112,111 @@ fn record_length() {
 
 #[test]
 fn kind() {
-    for byte in (0..=255).filter(|&byte| byte != 1) {
-        assert_eq!(fault_with(2, byte), Some(Fault::Kind));
+    for byte in 0..=255 {
+        let expected = match byte {
+            1 => None,
+            // A counter of two bytes.
+            2 | 4 => Some(Fault::CounterMaximum),
+            _ => Some(Fault::Kind),
+        };
+        assert_eq!(fault_with(2, byte), expected);
     }
     for byte in 1..=255 {
         assert_eq!(fault_with(3, byte), Some(Fault::Kind));
+    }
+}
+
+#[test]
+fn kinds_of_a_counter() {
+    for byte in 0..=255 {
+        let known = [1, 2, 4].contains(&byte);
+        let fault = fault_of(&counter_record(byte, 0x1000, 7, 9));
+        assert_eq!(fault, (!known).then_some(Fault::Kind), "{byte}");
+    }
+    for kind in [1, 2, 4] {
+        for high in 1..=255 {
+            let mut store = counter_record(kind, 0x1000, 7, 9);
+            store[3] = high;
+            assert_eq!(fault_of(&store), Some(Fault::Kind));
+            // As it would be, most significant byte first.
+            store[2] = 0;
+            assert_eq!(fault_of(&store), Some(Fault::Kind));
+        }
+    }
+}
+
+#[test]
+fn values_and_thresholds_of_a_counter() {
+    let numbers = [0, 1, 7, 8, 9, 0x7FFF_FFFF, 0xFFFF_FFFE, 0xFFFF_FFFF];
+    for kind in [2, 4] {
+        for value in numbers {
+            for threshold in numbers {
+                let store = counter_record(kind, 0x1000, value, threshold);
+                assert_eq!(fault_of(&store), None);
+            }
+        }
+    }
+}
+
+/// A record of this kind with so many bytes of data, all zero.
+fn sized_record(kind: u8, maximum: u16, used: u16) -> Vec<u8> {
+    let mut store = record(0x1000, maximum);
+    store[2] = kind;
+    store[8..10].copy_from_slice(&used.to_le_bytes());
+    store
+}
+
+#[test]
+fn sizes_of_a_counter() {
+    for kind in [2, 4] {
+        for maximum in 1..=20 {
+            for used in 0..=20 {
+                let expected = match (maximum, used) {
+                    (8, 8) => None,
+                    (8, _) => Some(Fault::CounterUsed),
+                    _ => Some(Fault::CounterMaximum),
+                };
+                let store = sized_record(kind, maximum, used);
+                assert_eq!(fault_of(&store), expected, "{maximum} {used}");
+            }
+        }
+        for used in [0x0008 << 8, 0x0108, 0x8008, 0xFFFF] {
+            let fault = fault_of(&sized_record(kind, 8, used));
+            assert_eq!(fault, Some(Fault::CounterUsed));
+        }
+        for maximum in [0x0108, 1_500] {
+            let fault = fault_of(&sized_record(kind, maximum, 8));
+            assert_eq!(fault, Some(Fault::CounterMaximum));
+        }
+        assert_eq!(fault_of(&sized_record(kind, 0, 0)), Some(Fault::Maximum));
+        let above = sized_record(kind, 1_501, 8);
+        assert_eq!(fault_of(&above), Some(Fault::Maximum));
+    }
+    // Data of 8 bytes may be used in part.
+    for used in 0..=8 {
+        assert_eq!(fault_of(&sized_record(1, 8, used)), None);
+    }
+}
+
+#[test]
+fn other_clauses_of_a_counter() {
+    for kind in [2, 4] {
+        let fault_with = |place: usize, byte: u8| {
+            let mut store = counter_record(kind, 0x1000, 7, 9);
+            store[place] = byte;
+            fault_of(&store)
+        };
+        assert_eq!(fault_with(0, 103), Some(Fault::RecordLength));
+        assert_eq!(fault_with(10, 0x04), Some(Fault::LifeCycle));
+        assert_eq!(fault_with(11, 1), Some(Fault::ZeroByte));
+        assert_eq!(fault_with(13, 1), Some(Fault::Expression(Slot::Change)));
+        assert_eq!(fault_with(67, 1), Some(Fault::SlotTail(Slot::Read)));
+        let order = [0x1000, 0x1000].map(|object| counter_record(kind, object, 7, 9));
+        assert_eq!(fault_of(&order.concat()), Some(Fault::Order));
+        for object in [0xE0C0, 0xF1C0, 0xF1C2] {
+            let fault = fault_of(&counter_record(kind, object, 7, 9));
+            assert_eq!(fault, Some(Fault::SessionObject));
+        }
     }
 }
 

@@ -15,6 +15,8 @@ pub const FLUSH: u8 = 0x80;
 pub const DATA: u8 = 0x00;
 /// Param of get and set: metadata.
 pub const METADATA: u8 = 0x01;
+/// Param of set: count, a step of a counter towards its threshold.
+pub const COUNT: u8 = 0x02;
 /// Param of set: make all data zero, then write.
 pub const ERASE_AND_WRITE: u8 = 0x40;
 

@@ -1,8 +1,11 @@
 //! The element over a lent store and session: calls by type, commands given as bytes, lists.
 
-use crate::command::{CLOSE, DATA, ERASE_AND_WRITE, GET, IDENTIFIER, METADATA, OPEN, REFUSED, SET};
+use crate::command::{
+    CLOSE, COUNT, DATA, ERASE_AND_WRITE, GET, IDENTIFIER, METADATA, OPEN, REFUSED, SET,
+};
 use crate::library::{self, List, ANSWERED};
-use crate::{tag, Error, Refusal, Session, HEADER, LARGEST_COMMAND, LEAD};
+use crate::{tag, Counter, Error, Refusal, Session};
+use crate::{COUNTER_SIZE, HEADER, LARGEST_COMMAND, LEAD};
 
 /// The number that names an object.
 #[derive(Clone, Copy, Debug, PartialEq, Eq, PartialOrd, Ord, Hash)]
@@ -155,6 +158,46 @@ impl<'a> Element<'a> {
     ) -> Result<(), Error> {
         let place = offset.0.to_be_bytes();
         self.change(set(ERASE_AND_WRITE, object, place, bytes, scratch)?)
+    }
+
+    /// Counts: moves a counter's value by the step towards its threshold, at most onto it. A step of 0 changes nothing.
+    ///
+    /// [`Refusal::InvalidParam`] where the object is no counter, [`Refusal::BoundaryExceeded`] where the value is at its threshold, or past it,
+    /// already; the change expression is asked as by a write.
+    ///
+    /// ```
+    /// # use element::{Counter, Element, Error, ObjectNumber, Refusal, Session};
+    /// # let (mut store, mut session) = ([0; 104], Session::fresh());
+    /// # store[..11].copy_from_slice(&[104, 0, 2, 0, 0xD0, 0xF1, 8, 0, 8, 0, 1]);
+    /// # (store[12], store[40], store[68]) = (1, 1, 1);
+    /// # let mut element = Element::new(&mut store, &mut session);
+    /// # element.open()?;
+    /// let trips = ObjectNumber(0xF1D0); // counts up
+    /// element.set_counter(trips, Counter { value: 298, threshold: 300 })?;
+    /// element.count(trips, 5)?;
+    /// assert_eq!(element.counter(trips)?, Counter { value: 300, threshold: 300 });
+    /// let past = element.count(trips, 1);
+    /// assert_eq!(past, Err(Error::Refused(Refusal::BoundaryExceeded)));
+    /// # Ok::<(), Error>(())
+    /// ```
+    pub fn count(&mut self, object: ObjectNumber, step: u8) -> Result<(), Error> {
+        let [high, low] = object.0.to_be_bytes();
+        self.change(&[SET, COUNT, 0, 5, high, low, 0, 0, step])
+    }
+
+    /// Reads value and threshold of a counter. The record's kind is not looked at: of other data the first eight bytes are read so.
+    pub fn counter(&mut self, object: ObjectNumber) -> Result<Counter, Error> {
+        let mut room = [0; HEADER + COUNTER_SIZE];
+        let length = Length(COUNTER_SIZE as u16);
+        let data = self.read(object, Offset(0), length, &mut room)?;
+        let bytes = data.try_into().map_err(|_| Error::WrongSize)?;
+        Ok(Counter::from_bytes(bytes))
+    }
+
+    /// Writes value and threshold of a counter, all eight bytes, as [`write`](Element::write) does; a counter refuses fewer.
+    pub fn set_counter(&mut self, object: ObjectNumber, counter: Counter) -> Result<(), Error> {
+        let mut scratch = [0; LEAD + COUNTER_SIZE];
+        self.write(object, Offset(0), &counter.to_bytes(), &mut scratch)
     }
 
     /// Reads the metadata of an object into the room and gives its fields, those behind 20 and L, with the tags of [`tag`].

@@ -16,7 +16,7 @@ use core::fmt;
 pub enum Refusal {
     /// No such object.
     InvalidObject = 0x01,
-    /// Unknown Param for this Cmd.
+    /// Unknown Param for this Cmd, or a count of what is no counter.
     InvalidParam = 0x03,
     /// The command's length, or its InLen, is wrong.
     InvalidLength = 0x04,
@@ -26,7 +26,7 @@ pub enum Refusal {
     InternalError = 0x06,
     /// The access condition does not hold.
     AccessDenied = 0x07,
-    /// Past the bytes in use (get) or past the maximum (write).
+    /// Past the bytes in use (get); past the maximum, or not all of a counter (write); at the threshold, or not at offset 0 (count).
     BoundaryExceeded = 0x08,
     /// Unknown Cmd.
     InvalidCommand = 0x0A,
@@ -62,14 +62,16 @@ impl Refusal {
     const fn text(self) -> &'static str {
         match self {
             Refusal::InvalidObject => "no such object",
-            Refusal::InvalidParam => "unknown Param for this Cmd",
+            Refusal::InvalidParam => "unknown Param for this Cmd, or a count of what is no counter",
             Refusal::InvalidLength => "the command's length, or its InLen, is wrong",
             Refusal::InvalidData => {
                 "metadata, life cycle value or application identifier not allowed"
             }
             Refusal::InternalError => "the store is malformed, or LcsG or LcsA is no state",
             Refusal::AccessDenied => "the access condition does not hold",
-            Refusal::BoundaryExceeded => "past the bytes in use (get) or past the maximum (write)",
+            Refusal::BoundaryExceeded => {
+                "past the bytes in use (get); past the maximum, or not all of a counter (write); at the threshold, or not at offset 0 (count)"
+            }
             Refusal::InvalidCommand => "unknown Cmd",
             Refusal::NotAvailable => "the application is closed, or terminated",
             Refusal::InsufficientBuffer => "the response does not fit the room",

@@ -21,11 +21,15 @@
 //! # Ok::<(), element::Error>(())
 //! ```
 //!
+//! A store may hold counters: [`Element::count`] moves one towards its threshold and not past it, [`Element::counter`] and
+//! [`Element::set_counter`] read and set its [`Counter`]. The factory's store has none; [`kind`] says how a record tells that it is one.
+//!
 //! The crate needs `core` only and takes no memory of its own: all buffers are lent, and no call has a large one on the stack. No input panics.
 //! A command may also be given as bytes: [`Element::send`], [`Element::carry_out`] and, for a list, [`Element::run`].
 #![no_std]
 #![deny(missing_docs, unsafe_code, unsafe_op_in_unsafe_fn)]
 
+mod counter;
 mod element;
 mod error;
 mod library;
@@ -33,8 +37,10 @@ mod session;
 
 pub mod command;
 pub mod expression;
+pub mod kind;
 pub mod tag;
 
+pub use counter::Counter;
 pub use element::{Answer, Element, Length, ObjectNumber, Offset};
 pub use error::{Error, Refusal};
 pub use library::check_store;
@@ -46,6 +52,8 @@ pub const FACTORY_STORE_SIZE: usize = 6024;
 pub const LARGEST_STORE: usize = 16384;
 /// The most data of an object.
 pub const LARGEST_OBJECT: usize = 1500;
+/// The data of a counter: maximum and used of each.
+pub const COUNTER_SIZE: usize = 8;
 /// The most bytes of a command; scratch for every write.
 pub const LARGEST_COMMAND: usize = 1557;
 /// The bytes before InData in a command and before OutData in a response.

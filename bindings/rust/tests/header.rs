@@ -1,5 +1,5 @@
 //! The constants are those of include/element.h.
-use element::{command, ObjectNumber, Refusal};
+use element::{command, kind, ObjectNumber, Refusal};
 
 /// Each `ELEMENT_NAME = NUMBER` of the header.
 fn header() -> Vec<(String, usize)> {
@@ -57,6 +57,7 @@ fn codes() -> Vec<(&'static str, usize)> {
         ("FLUSH", command::FLUSH),
         ("DATA", command::DATA),
         ("METADATA", command::METADATA),
+        ("COUNT", command::COUNT),
         ("ERASE_AND_WRITE", command::ERASE_AND_WRITE),
     ]
     .map(|(name, code)| (name, code.into()))
@@ -68,6 +69,10 @@ fn sizes() -> Vec<(&'static str, usize)> {
         ("LCSG", ObjectNumber::LCSG.0.into()),
         ("LCSA", ObjectNumber::LCSA.0.into()),
         ("LAST_ERROR", ObjectNumber::LAST_ERROR.0.into()),
+        ("KIND_DATA", kind::DATA.into()),
+        ("KIND_COUNTER_UP", kind::COUNTER_UP.into()),
+        ("KIND_COUNTER_DOWN", kind::COUNTER_DOWN.into()),
+        ("COUNTER_SIZE", element::COUNTER_SIZE),
         ("IDENTIFIER_SIZE", command::IDENTIFIER.len()),
         ("FACTORY_STORE_SIZE", element::FACTORY_STORE_SIZE),
         ("LARGEST_STORE", element::LARGEST_STORE),

@@ -204,7 +204,7 @@ fn numbers_and_refusals_go_both_ways() {
 #[test]
 fn errors_say_what_is_wrong() {
     let full = Error::Refused(Refusal::BoundaryExceeded);
-    let text = "refused 08: past the bytes in use (get) or past the maximum (write)";
+    let text = "refused 08: past the bytes in use (get); past the maximum, or not all of a counter (write); at the threshold, or not at offset 0 (count)";
     assert_eq!(full.to_string(), text);
     assert_eq!(Error::NoRoom.to_string(), "the room is under 4 bytes");
 }

@@ -88,5 +88,6 @@ pub fn granted(asked: Action, store: &[u8], at: usize, session: Session) -> bool
         Action::Write => slot_holds(store, at, Slot::Change, stored, session),
         Action::EraseAndWrite => slot_holds(store, at, Slot::Change, stored, session),
         Action::SetMetadata => slot_holds(store, at, Slot::Change, stored, session),
+        Action::Count => slot_holds(store, at, Slot::Change, stored, session),
     }
 }

@@ -11,11 +11,11 @@ use lib.ListN.{length, getD, take, drop}
 use lib.Seq.{getD-drop}
 use Rattle.rules.specs.declared.Session.{Session}
 use Rattle.rules.specs.declared.Action.{Action}
-use Rattle.rules.specs.declared.Action.the-variants.{GetData, GetMetadata, Write, SetMetadata}
+use Rattle.rules.specs.declared.Action.the-variants.{GetData, GetMetadata, Write, SetMetadata, Count}
 use Rattle.rules.specs.Basic.{if_then_else_}
-use Rattle.rules.specs.Command.{offset, asked-length, sent-data, sent-metadata}
+use Rattle.rules.specs.Command.{offset, asked-length, sent-data, step-byte, sent-metadata}
 use Rattle.rules.specs.Response.{done-response, put-in-front}
-use Rattle.rules.specs.Object.{Object, used, of-session, with-content}
+use Rattle.rules.specs.Object.{Object, used, of-session, is-counter, with-content}
 use Rattle.rules.specs.Metadata.{metadata, metadata-allowed, sent-fields, with-fields}
 use Rattle.rules.specs.Session.{with-error, with-state}
 use Rattle.rules.specs.Operation.{put-at, operation}
@@ -23,6 +23,7 @@ use Rattle.rules.specs.Access.{Seen}
 use Rattle.record.specs.Places.{object-at, Stored, with-record}
 use Rattle.laws.proofs.Puts.{shown-length as all-shown}
 use Rattle.record.proofs.Standing.{stored-kind}
+use Rattle.change.specs.Change.{counted-at}
 use Rattle.act.specs.Acting.{session-does, record-does, InSessionMay, OnRecordMay, stored-at}
 
 -- `show_byte` and `show_data` ---------------------------------------------------------------------------------------------------
@@ -101,6 +102,12 @@ module _ (a v : Action) (e : a ≡ v) (c : List ℕ) (room : ℕ) where
     pub set-answered : v ≡ SetMetadata → 4 ≤ room
     set-answered d = (rw (e ∙ d) at m) .1
 
+    pub count-answered : v ≡ Count → 4 ≤ room
+    count-answered d = (rw (e ∙ d) at m) .1
+
+    pub counter-there : v ≡ Count → is-counter (object-at p b .kind) ≡ true
+    counter-there d = (rw (e ∙ d) at m) .0
+
     pub set-allowed : (d : List ℕ) → d ≡ sent-metadata c → v ≡ SetMetadata → metadata-allowed (object-at p b .lcso) d ≡ true
     set-allowed d ed s = rw ed ((rw (e ∙ s) at m) .0)
 
@@ -137,3 +144,6 @@ module _ (p : ℕ) (b c r : List ℕ) where
   pub set-store : (d : List ℕ) → d ≡ sent-metadata c → r ≡ with-record p (with-fields (sent-fields d) (object-at p b)) b →
       r ≡ with-record p (with-fields (sent-fields (sent-metadata c)) (object-at p b)) b
   set-store d ed f = rw (← ed) f
+
+  pub count-store : (step : ℕ) → step ≡ step-byte c → r ≡ counted-at p step b → r ≡ counted-at p (step-byte c) b
+  count-store step es f = rw (← es) f

@@ -8,10 +8,10 @@ use lib.ListN.{length, take, drop}
 use Rattle.rules.specs.declared.Session.{Session}
 use Rattle.rules.specs.declared.Kind.the-variants.{LifeCycle}
 use Rattle.rules.specs.declared.Action.{Action}
-use Rattle.rules.specs.declared.Action.the-variants.{GetData, GetMetadata, Write, EraseAndWrite, SetMetadata}
+use Rattle.rules.specs.declared.Action.the-variants.{GetData, GetMetadata, Write, EraseAndWrite, SetMetadata, Count}
 use Rattle.rules.specs.Command.{offset, asked-length, sent-data, sent-metadata}
 use Rattle.rules.specs.Response.{done-response, put-in-front}
-use Rattle.rules.specs.Object.{Object, used}
+use Rattle.rules.specs.Object.{Object, used, is-counter}
 use Rattle.rules.specs.Factory.{fresh-session}
 use Rattle.rules.specs.Session.{session-object}
 use Rattle.rules.specs.Metadata.{metadata, metadata-allowed}
@@ -47,6 +47,7 @@ InSessionMay GetMetadata c room = ⊥
 InSessionMay Write c room = 4 ≤ room
 InSessionMay EraseAndWrite c room = 4 ≤ room
 InSessionMay SetMetadata c room = ⊥
+InSessionMay Count c room = ⊥
 
 abbrev pub OnRecordMay : Action → List ℕ → Object → ℕ → Type 0
 OnRecordMay GetData c o room = (offset c + asked-length c ≤ used o) × (4 + asked-length c ≤ room)
@@ -54,3 +55,4 @@ OnRecordMay GetMetadata c o room = 4 + length (metadata o) ≤ room
 OnRecordMay Write c o room = (offset c + length (sent-data c) ≤ o .maximum) × (4 ≤ room)
 OnRecordMay EraseAndWrite c o room = (offset c + length (sent-data c) ≤ o .maximum) × (4 ≤ room)
 OnRecordMay SetMetadata c o room = (metadata-allowed (o .lcso) (sent-metadata c) ≡ true) × (4 ≤ room)
+OnRecordMay Count c o room = (is-counter (o .kind) ≡ true) × (4 ≤ room)

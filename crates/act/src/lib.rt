@@ -58,7 +58,7 @@ fn set_state(command: &[u8], number: ObjectNumber, session: Session, room: &mut 
     session::with_state(number, command[8], session)
 }
 
-// At an object of the session: the session after it. Its metadata was refused at step 10.
+// At an object of the session: the session after it. Its metadata was refused at step 10, and so was a count of it.
 pub fn act_in_session(
     asked: Action,
     command: &[u8],
@@ -77,6 +77,7 @@ pub fn act_in_session(
         Action::Write => set_state(command, number, session, room),
         Action::EraseAndWrite => set_state(command, number, session, room),
         Action::SetMetadata => session,
+        Action::Count => session,
     }
 }
 
@@ -117,6 +118,10 @@ pub fn act_on_record(asked: Action, command: &[u8], store: &mut [u8], at: usize,
         }
         Action::SetMetadata => {
             content::store_content(store, at, command::sent_metadata(command));
+            response::done(room);
+        }
+        Action::Count => {
+            change::count(store, at, command::step_byte(command));
             response::done(room);
         }
     }

@@ -5,7 +5,7 @@ use mathlib.Core.Path.{_≡_, refl}
 use native.Mathlib.Omega.{arith}
 use native.Mathlib.Nat.{add-assoc}
 use lib.ListN.{length, take, drop, length-take, length-drop, take-append-drop}
-use lib.Seq.{take-append-le, drop-append-le, take-append-add, drop-append-add, length-take-le}
+use lib.Seq.{drop-drop, take-append-le, drop-append-le, take-append-add, drop-append-add, length-take-le}
 use Rattle.primitives.specs.Bytes.{over}
 use Rattle.primitives.proofs.Over.{over-length}
 
@@ -34,3 +34,8 @@ lent-over a k m y d xs h l e =
     let within = over-before k y (take m (drop a xs)) (drop m (drop a xs)) (simp (length-take, length-drop) (omega arith)) in
     let behind = over-behind a k y (take a xs) (drop a xs) (length-take-le a xs (omega arith)) in
     rw (e, ← within, take-append-drop m (drop a xs), ← behind, take-append-drop a xs)
+
+-- a lent part of as many bytes as d comes back as d
+pub lent-whole : (a m : ℕ) (d xs : List ℕ) → length d ≡ m → take a xs ++ (d ++ drop m (drop a xs)) ≡ over a d xs
+unfolding over
+lent-whole a m d xs h = rw (← h, drop-drop)

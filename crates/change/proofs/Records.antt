@@ -42,6 +42,11 @@ module _ (o : Object) (ok : object-allowed o ≡ true) where
       let counted : over 8 (little-endian (length new)) (head (used o) ++ d) ≡ head (length new) ++ d = unfold head fixed over in refl in
       rw (own, counted, over-behind head-size k src (head (length new)) d (head-length (length new)), e) (sym (head-record new))
 
+  -- the count of used bytes put as it stands
+  pub used-record : over 8 (little-endian (used o)) (record-bytes o) ≡ record-bytes o
+  unfolding over record-bytes-with
+  used-record = refl
+
   pub lcso-record : (st : ℕ) → over 10 (st ∷ []) (record-bytes o) ≡ record-bytes (with-lcso st o)
   unfolding over record-bytes-with with-lcso
   lcso-record st = refl

@@ -2,30 +2,33 @@
 use Prim.Native.Nat.{ℕ, _+_, _-_, _≤_, _<_, max}
 use mathlib.Core.Bool.{true}
 use mathlib.Core.List.{List, [], _∷_, _++_}
-use mathlib.Core.Path.{_≡_, refl, sym, ap, _∙_}
+use mathlib.Core.Path.{_≡_, sym, ap, _∙_}
 use native.Mathlib.Omega.{arith}
 use native.Mathlib.Nat.{add-zero, add-assoc}
-use lib.ListN.{length, take, drop, length-replicate}
+use lib.ListN.{length, take, drop, length-take, length-drop, length-replicate}
+use lib.Seq.{take-at}
 use Rattle.rules.specs.Basic.{zeros, little-endian, is-some}
+use Rattle.rules.specs.declared.Direction.{Direction}
 use Rattle.rules.specs.declared.Slot.{Slot}
 use Rattle.rules.specs.Expression.{expression, read-expression}
-use Rattle.rules.specs.Object.{Object, used, object-allowed, with-content}
+use Rattle.rules.specs.Object.{used, is-counter, direction, counter-size, object-allowed, with-content}
+use Rattle.rules.specs.Counter.{after-count}
 use Rattle.rules.specs.Layout.{slot-size, head-size, record-size, slot-at, slot-of, slot, record-bytes}
 use Rattle.rules.specs.Operation.{put-at}
 use Rattle.laws.proofs.Facts.{allowed}
+use Rattle.laws.proofs.Fitting.{counter-maximum, counter-content, count-length}
 use Rattle.laws.proofs.Expressions.{expression-length}
 use Rattle.laws.proofs.Puts.{put-used}
 use Rattle.laws.proofs.Inverse.{record-length, slot-length}
 use Rattle.primitives.specs.Bytes.{over}
-use Rattle.primitives.proofs.Over.{put-zeros, over-length}
+use Rattle.primitives.proofs.Over.{over-length}
 use Rattle.record.specs.Places.{object-at, Stored, with-record}
-use Rattle.record.proofs.Standing.{slot-in-head}
-use Rattle.change.specs.Change.{with-lcso, with-expression}
-use Rattle.change.proofs.Inside.{over-inside, lent-over}
-use Rattle.change.proofs.Zeros.{padded, put-padded, clear-padded}
+use Rattle.record.proofs.Standing.{standing, data-here, slot-in-head}
+use Rattle.change.specs.Change.{counted-at, with-lcso, with-expression}
+use Rattle.change.proofs.Inside.{over-inside, lent-over, lent-whole}
+use Rattle.change.proofs.Zeros.{padded, put-padded, put-zeroed, over-padded, padded-full}
 use Rattle.change.proofs.Changed.{stands-allowed, unchanged}
-use Rattle.change.proofs.Rewritten.{Rewritten, left-start, left-object, left-stored, left-erased, left-written}
-use Rattle.change.proofs.Records.{data-record, lcso-record, slot-record, read-allowed}
+use Rattle.change.proofs.Records.{data-record, used-record, lcso-record, slot-record, read-allowed}
 
 module _ (p : ℕ) (b : List ℕ) (s : Stored p b) where
   ok : object-allowed (object-at p b) ≡ true
@@ -77,6 +80,19 @@ module _ (p : ℕ) (b : List ℕ) (s : Stored p b) where
       let inside = over-inside p (head-size + k) src x b (omega (arith, s .inside)) (omega arith) in
       rw (add-assoc p head-size k, put-into 8 (little-endian v) (omega arith), inside, c, data-record (object-at p b) ok k src new e)
 
+  -- all of the data part anew
+  whole-by : (v : ℕ) (d new : List ℕ) → v ≡ length new → length d ≡ object-at p b .maximum → d ≡ padded (object-at p b .maximum) new →
+      over (p + head-size) d (over (p + 8) (little-endian v) b) ≡ with-record p (with-content new (object-at p b)) b
+  whole-by v d new c l q =
+      let o = object-at p b in
+      rw add-zero at (data-by v 0 d new c (omega arith) (over-padded (o .maximum) d l (o .content) (s .used-fits) ∙ q))
+
+  -- the count of used bytes put as it stands
+  same-used : over (p + 8) (little-endian (used (object-at p b))) b ≡ b
+  same-used =
+      let o = object-at p b in
+      put-into 8 (little-endian (used o)) (omega arith) ∙ ap (λ x. over p x b) (used-record o ok) ∙ (unfold with-record in unchanged p b s)
+
   -- the data part, which ends at e, was lent
   module _ (e : ℕ) (end : e ≡ p + head-size + object-at p b .maximum) where
     pub write-by : (k u v : ℕ) (src b1 d : List ℕ) → k + length src ≤ object-at p b .maximum → u ≡ used (object-at p b) → v ≡ max u (k + length src) →
@@ -89,27 +105,43 @@ module _ (p : ℕ) (b : List ℕ) (s : Stored p b) where
         lent-over (p + head-size) k (e - (p + head-size)) src d b1 (omega (arith, s .inside, ap length e1, counted-length v)) (omega arith) ed ∙
         ap (over (p + head-size + k) src) e1 ∙ data-by v k src _ c h (put-padded k (o .maximum) src (o .content) h (s .used-fits))
 
-    pub erase-by : (b1 d : List ℕ) → b1 ≡ over (p + 8) (little-endian 0) b → d ≡ zeros (length (take (e - (p + head-size)) (drop (p + head-size) b1))) →
-        take (p + head-size) b1 ++ (d ++ drop (e - (p + head-size)) (drop (p + head-size) b1)) ≡ with-record p (with-content [] (object-at p b)) b
-    erase-by b1 d e1 ed =
+    pub erase-write-by : (k v : ℕ) (src b1 d : List ℕ) → k + length src ≤ object-at p b .maximum → v ≡ k + length src →
+        b1 ≡ over (p + 8) (little-endian v) b → d ≡ over k src (zeros (length (take (e - (p + head-size)) (drop (p + head-size) b1)))) →
+        take (p + head-size) b1 ++ (d ++ drop (e - (p + head-size)) (drop (p + head-size) b1)) ≡
+        with-record p (with-content (put-at k src []) (object-at p b)) b
+    erase-write-by k v src b1 d h ev e1 ed =
         let m = object-at p b .maximum in
-        let put = data-by 0 0 (zeros m) [] refl (simp length-replicate (omega arith)) (clear-padded m (object-at p b .content) (s .used-fits)) in
-        rw end (put-zeros b1 d (p + head-size) m (omega (arith, s .inside, ap length e1, counted-length 0)) (rw end at ed) ∙
-        ap (over (p + head-size) (zeros m)) e1 ∙ (rw add-zero at put))
+        let part : length (take (e - (p + head-size)) (drop (p + head-size) b1)) ≡ m =
+        simp (length-take, length-drop) (omega (arith, s .inside, ap length e1, counted-length v)) in
+        let alone : d ≡ over k src (zeros m) = ed ∙ ap (λ n. over k src (zeros n)) part in
+        let long : length d ≡ m = ap length alone ∙ over-length k src (zeros m) (simp length-replicate (omega arith)) ∙ length-replicate m 0 in
+        lent-whole (p + head-size) (e - (p + head-size)) d b1 (omega arith) ∙ ap (over (p + head-size) d) e1 ∙
+        whole-by v d (put-at k src []) (omega (arith, put-used k src [])) long (alone ∙ put-zeroed k m src h)
 
-  -- a write to the store b1 where all data was zeroed
-  module _ (b1 : List ℕ) (e : b1 ≡ with-record p (with-content [] (object-at p b)) b) where
-    erased : Rewritten p b (with-content [] (object-at p b)) b1
-    erased = left-erased p b (object-at p b) b (left-start p b s) b1 e
+    -- a counter: its bytes are all of the data part
+    module _ (c : is-counter (object-at p b .kind) ≡ true) where
+      maximum : object-at p b .maximum ≡ counter-size
+      maximum = counter-maximum (object-at p b) ok c
 
-    pub erased-stored : Stored p b1
-    erased-stored = left-stored p b _ b1 erased
+      in-use : used (object-at p b) ≡ counter-size
+      in-use = counter-content (object-at p b) ok c
 
-    pub erased-room : (n : ℕ) → n ≤ object-at p b .maximum → n ≤ object-at p b1 .maximum
-    erased-room n h = omega (arith, ap (λ (o : Object). o .maximum) (left-object p b _ b1 erased), erased .maximum)
+      counter-lent : take (e - (p + head-size)) (drop (p + head-size) b) ≡ object-at p b .content
+      counter-lent =
+          let t = standing p b (s .stands) in
+          rw (data-here p b (object-at p b) _ (t .allowed) (t .here)) (take-at (object-at p b .content) _ (e - (p + head-size)) (omega (arith, maximum, in-use)))
 
-    pub erase-write-by : (k : ℕ) (src r : List ℕ) → k + length src ≤ object-at p b .maximum →
-        r ≡ with-record p (with-content (put-at k src (object-at p b1 .content)) (object-at p b1)) b1 →
-        r ≡ with-record p (with-content (put-at k src []) (object-at p b)) b
-    unfolding with-content
-    erase-write-by k src r h f = left-written p b _ b1 erased r k src h f .bytes
+      pub counter-long : length (take (e - (p + head-size)) (drop (p + head-size) b)) ≡ counter-size
+      counter-long = ap length counter-lent ∙ in-use
+
+      pub count-by : (way : Direction) (step : ℕ) (d : List ℕ) → way ≡ direction (object-at p b .kind) →
+          d ≡ after-count way step (take (e - (p + head-size)) (drop (p + head-size) b)) →
+          take (p + head-size) b ++ (d ++ drop (e - (p + head-size)) (drop (p + head-size) b)) ≡ counted-at p step b
+      count-by way step d ew ed =
+          let o = object-at p b in
+          let new = after-count (direction (o .kind)) step (o .content) in
+          let counted : d ≡ new = ed ∙ (λ i. after-count (ew i) step (counter-lent i)) in
+          let size : length new ≡ counter-size = count-length (direction (o .kind)) step (o .content) in-use in
+          let long : length new ≡ o .maximum = size ∙ sym maximum in
+          rw counted (lent-whole (p + head-size) (e - (p + head-size)) new b (omega arith) ∙ ap (over (p + head-size) new) (sym same-used) ∙
+          whole-by (used o) new new (in-use ∙ sym size) long (sym (padded-full (o .maximum) new long)))

@@ -1,18 +1,16 @@
 -- What several changes at one place leave, one after the other: laws for callers, each from what a function ensures.
-use Prim.Native.Nat.{ℕ, _+_, _≤_}
+use Prim.Native.Nat.{ℕ, _+_}
 use mathlib.Core.Bool.{true}
-use mathlib.Core.List.{List, [], _++_}
+use mathlib.Core.List.{List, _++_}
 use mathlib.Core.Path.{_≡_, refl, sym, _∙_}
 use native.Mathlib.Omega.{arith}
 use lib.ListN.{length, take, drop}
 use lib.Seq.{drop-at, length-take-le}
 use Rattle.laws.proofs.Facts.{allowed}
-use Rattle.laws.proofs.Fitting.{Fitting, content-fits}
+use Rattle.laws.proofs.Fitting.{Fitting}
 use Rattle.laws.proofs.Inverse.{record-length}
-use Rattle.laws.proofs.Puts.{put-used}
-use Rattle.rules.specs.Object.{Object, object-allowed, with-content}
+use Rattle.rules.specs.Object.{Object, object-allowed}
 use Rattle.rules.specs.Layout.{record-size, record-bytes}
-use Rattle.rules.specs.Operation.{put-at}
 use Rattle.primitives.specs.Bytes.{over}
 use Rattle.primitives.proofs.Over.{over-part, over-length}
 use Rattle.record.specs.Places.{object-at, Stored, with-record}
@@ -64,14 +62,3 @@ module _ (p : ℕ) (b : List ℕ) (o : Object) (b1 : List ℕ) (l : Rewritten p 
         maximum = g .maximum ∙ l .maximum;
         bytes = e ∙ rw (left-object, l .bytes) (over-part (take p b) (record-bytes o) (record-bytes (f o)) _ p before same ∙ rw same);
       }
-
-  module _ (b2 : List ℕ) where
-    pub left-erased : b2 ≡ with-record p (with-content [] (object-at p b1)) b1 → Rewritten p b (with-content [] o) b2
-    left-erased = left-then (with-content []) b2 (content-fits [] o (l .allowed) (omega arith))
-
-    pub left-written : (k : ℕ) (src : List ℕ) → k + length src ≤ o .maximum →
-        b2 ≡ with-record p (with-content (put-at k src (object-at p b1 .content)) (object-at p b1)) b1 →
-        Rewritten p b (with-content (put-at k src (o .content)) o) b2
-    left-written k src h =
-        left-then (λ x. with-content (put-at k src (x .content)) x) b2
-        (content-fits _ o (l .allowed) (omega (arith, put-used k src (o .content), allowed o (l .allowed) .used-fits)))

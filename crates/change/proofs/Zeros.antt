@@ -38,9 +38,23 @@ put-padded k m b old h l =
     unfold put-at in append-assoc (take k (old ++ zeros (k - length old))) b (drop (k + length b) old) in
     simp (append-nil, front, back) (sym (ap (λ x. x ++ zeros r) shape ∙ simp append-assoc))
 
--- all of it zeroed
-pub clear-padded : (m : ℕ) (old : List ℕ) → length old ≤ m → over 0 (zeros m) (padded m old) ≡ padded m []
-unfolding over padded
-clear-padded m old l =
-    let past = drop-of-length-le (padded m old) {i = length (zeros m)} (simp (append-nil, length-append, length-replicate) (omega arith)) in
-    simp (zero-add, past, sub-zero)
+-- bytes put alone among zeros
+pub put-zeroed : (k m : ℕ) (b : List ℕ) → k + length b ≤ m → over k b (zeros m) ≡ padded m (put-at k b [])
+put-zeroed k m b h =
+    let none : padded m [] ≡ zeros m = unfold padded in simp (sub-zero, append-nil) in
+    rw none at (put-padded k m b [] h (omega arith))
+
+-- all of the data anew
+module _ (m : ℕ) (d : List ℕ) (h : length d ≡ m) where
+  pub over-padded : (old : List ℕ) → length old ≤ m → over 0 d (padded m old) ≡ d
+  unfolding over padded
+  over-padded old l =
+      let past = drop-of-length-le (padded m old) {i = length d} (simp (append-nil, length-append, length-replicate) (omega arith)) in
+      rw (zero-add, past) (append-nil d)
+
+  -- content up to the maximum has no zeros behind it
+  pub padded-full : padded m d ≡ d
+  unfolding padded
+  padded-full =
+      let none : m - length d ≡ 0 = omega arith in
+      simp (none, append-nil)

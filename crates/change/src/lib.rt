@@ -8,9 +8,9 @@ ghost use Prim.Native.Nat.{_+_, _≤_};
 ghost use lib.ListN.{length};
 ghost use Rattle.rules.specs.Basic.{is-some};
 ghost use Rattle.rules.specs.Expression.{is-state, expression, read-expression};
-ghost use Rattle.rules.specs.Object.{with-content};
+ghost use Rattle.rules.specs.Object.{is-counter};
 ghost use Rattle.record.specs.Places.{object-at, Stored, with-record};
-ghost use Rattle.change.specs.Change.{written-over, with-lcso, expression-set};
+ghost use Rattle.change.specs.Change.{written-over, counted-at, with-lcso, expression-set};
 
 // Writes bytes at an offset of the object's data: its data part is lent on.
 pub fn write(store: &mut [u8], at: usize, offset: Offset, src: &[u8])
@@ -26,24 +26,28 @@ pub fn write(store: &mut [u8], at: usize, offset: Offset, src: &[u8])
     primitives::put(&mut store[a..e], from, src);
 }
 
-// Zeros all of the object's data; none of it is used then.
-fn erase(store: &mut [u8], at: usize)
-    requires { ⌜ Stored at (now store) ⌝ }
-    ensures { λ _. ⌜ now (store .exit) ≡ with-record at (with-content [] (object-at at (now (store .entry)))) (now (store .entry)) ⌝ }
-{
-    let a = at + record::DATA;
-    let e = record::data_end(store, at);
-    record::set_used(store, at, 0);
-    primitives::clear(&mut store[a..e]);
-}
-
-// Zeros all of the object's data first: what stays is what is written.
+// Zeros all other bytes of the object's data: what stays is what is written.
 pub fn erase_and_write(store: &mut [u8], at: usize, offset: Offset, src: &[u8])
     requires { ⌜ Stored at (now store) × (offset .0 + length (now src) ≤ object-at at (now store) .maximum) ⌝ }
     ensures { λ _. ⌜ now (store .exit) ≡ written-over [] at (offset .0) (now (src .entry)) (now (store .entry)) ⌝ }
 {
-    erase(store, at);
-    write(store, at, offset, src);
+    let from = offset.0;
+    let end = from + src.len();
+    let a = at + record::DATA;
+    let e = record::data_end(store, at);
+    record::set_used(store, at, end);
+    primitives::put_alone(&mut store[a..e], from, src);
+}
+
+// Counts by a step: the value is changed where it stands, in the data part that is lent on.
+pub fn count(store: &mut [u8], at: usize, step: u8)
+    requires { ⌜ Stored at (now store) × (is-counter (object-at at (now store) .kind) ≡ true) ⌝ }
+    ensures { λ _. ⌜ now (store .exit) ≡ counted-at at step (now (store .entry)) ⌝ }
+{
+    let direction = record::direction(store, at);
+    let a = at + record::DATA;
+    let e = record::data_end(store, at);
+    counter::count(&mut store[a..e], direction, step);
 }
 
 // Writes the LcsO.

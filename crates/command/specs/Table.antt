@@ -5,7 +5,7 @@ use mathlib.Core.List.{List, [], _∷_}
 use lib.Dec.{eqb}
 use lib.ListN.{length}
 use Rattle.rules.specs.declared.Action.{Action}
-use Rattle.rules.specs.declared.Action.the-variants.{GetData, GetMetadata, Write, EraseAndWrite, SetMetadata}
+use Rattle.rules.specs.declared.Action.the-variants.{GetData, GetMetadata, Write, EraseAndWrite, SetMetadata, Count}
 use Rattle.rules.specs.declared.Row.{Row}
 use Rattle.rules.specs.declared.Row.the-variants.{OnObject, OpenApplication, CloseApplication, Unknown}
 use Rattle.rules.specs.declared.Sizes.{Sizes}
@@ -23,6 +23,7 @@ action-sizes GetMetadata = exactly 2
 action-sizes Write = at-least 5
 action-sizes EraseAndWrite = at-least 5
 action-sizes SetMetadata = at-least 4
+action-sizes Count = exactly 5
 
 abbrev pub row-sizes : Row → Sizes
 row-sizes (OnObject a) = action-sizes a

@@ -14,7 +14,7 @@ ghost use lib.Dec.{leb, ltb};
 ghost use lib.ListN.{length};
 ghost use Rattle.rules.specs.Basic.{same};
 ghost use Rattle.rules.specs.Command.{asks-flush, cmd, command-table, row, known-cmd, size-right};
-ghost use Rattle.rules.specs.Command.{object-number, offset, asked-length, sent-data, sent-metadata};
+ghost use Rattle.rules.specs.Command.{object-number, offset, asked-length, sent-data, step-byte, sent-metadata};
 ghost use Rattle.rules.specs.Refusals.{unsound, ill-sized, unknown-cmd, unusable, unknown-param, wrong-length, wrong-content};
 ghost use Rattle.rules.specs.Refusals.{early, fitting};
 ghost use Rattle.rules.specs.Response.{code};
@@ -62,6 +62,9 @@ fn row_of(cmd: u8, param: u8) -> Row
     if primitives::and(cmd == 0x02, param == 0x01) {
         return Row::OnObject(Action::SetMetadata);
     }
+    if primitives::and(cmd == 0x02, param == 0x02) {
+        return Row::OnObject(Action::Count);
+    }
     if primitives::and(cmd == 0x70, param == 0x00) {
         return Row::OpenApplication;
     }
@@ -104,6 +107,13 @@ pub fn sent_data(command: &[u8]) -> &[u8]
     ensures { λ r. ⌜ now r ≡ sent-data (now (command .entry)) ⌝ }
 {
     &command[8..]
+}
+
+pub fn step_byte(command: &[u8]) -> u8
+    requires { ⌜ 9 ≤ length (now command) ⌝ }
+    ensures { λ r. ⌜ r ≡ step-byte (now (command .entry)) ⌝ }
+{
+    command[8]
 }
 
 pub fn sent_metadata(command: &[u8]) -> &[u8]
@@ -213,6 +223,7 @@ fn action_sizes(asked: Action) -> Sizes
             least: 4,
             most: 0xFFFF,
         },
+        Action::Count => Sizes { least: 5, most: 5 },
     }
 }
 

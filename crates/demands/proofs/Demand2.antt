@@ -1,25 +1,28 @@
 -- Demand 2 of one command: a write to a stored object makes its change exactly when the command is well formed, the stored change
 -- condition holds and the content is allowed and fits; a data read shows exactly the stored bytes, only when the read condition holds.
 use Prim.Native.Nat.{ℕ, _+_, _≤_}
-use mathlib.Core.Bool.{true, false, not, false≢true}
+use mathlib.Core.Bool.{Bool, true, false, not, _&&_, false≢true}
 use mathlib.Core.List.{List, []}
 use mathlib.Core.Option.{some}
 use mathlib.Core.Path.{_≡_, refl, sym, ap, _∙_}
 use native.Mathlib.Omega.{arith}
 use borrow.Author.Tests.{leb-true, le-leb, not-true, not-false}
+use lib.Dec.{eqb}
 use lib.ListN.{length, getD}
 use Rattle.rules.specs.declared.Session.{Session}
 use Rattle.rules.specs.declared.Refusal.{Refusal}
-use Rattle.rules.specs.declared.Refusal.the-variants.{InvalidData, BoundaryExceeded}
+use Rattle.rules.specs.declared.Refusal.the-variants.{InvalidParam, InvalidData, BoundaryExceeded}
 use Rattle.rules.specs.declared.Kind.the-variants.{LifeCycle}
 use Rattle.rules.specs.declared.Action.{Action}
-use Rattle.rules.specs.declared.Action.the-variants.{GetData, GetMetadata, Write, EraseAndWrite, SetMetadata}
+use Rattle.rules.specs.declared.Action.the-variants.{GetData, GetMetadata, Write, EraseAndWrite, SetMetadata, Count}
 use Rattle.rules.specs.declared.Row.the-variants.{OnObject}
 use Rattle.rules.specs.declared.Verdict.{Verdict}
 use Rattle.rules.specs.declared.Verdict.the-variants.{Accepted}
+use Rattle.rules.specs.Basic.{if_then_else_}
 use Rattle.rules.specs.Command.{row, object-number, offset, asked-length, sent-data}
 use Rattle.rules.specs.Response.{done-response, put-in-front}
-use Rattle.rules.specs.Object.{Object, used, is, of-session}
+use Rattle.rules.specs.Object.{Object, used, is, of-session, is-counter, direction}
+use Rattle.rules.specs.Counter.{exhausted}
 use Rattle.rules.specs.Layout.{objects-allowed, pack, find, replaced}
 use Rattle.rules.specs.Chain.{_refused_or_}
 use Rattle.rules.specs.Access.{Seen, seen, named, holds, asked, granted}
@@ -47,6 +50,16 @@ record Writing (a : Action) (c : List ℕ) (o : Object) (see : Seen) : Type 0 wh
   silent : operation a c o see .answer ≡ []
   puts : operation a c o see .stores ≡ some (changed a c o)
 
+-- the refusals of a count in one: 03 where the object is no counter, else 08
+count-judged : (counter front at-end : Bool) →
+    (not counter refused InvalidParam or not front refused BoundaryExceeded or at-end refused BoundaryExceeded or Accepted) ≡
+    (not (counter && front && not at-end) refused (if counter then BoundaryExceeded else InvalidParam) or Accepted)
+unfolding _refused_or_
+count-judged true true true = refl
+count-judged true true false = refl
+count-judged true false at-end = refl
+count-judged false front at-end = refl
+
 module _ (c : List ℕ) (o : Object) (see : Seen) (kind : of-session (o .kind) ≡ false) where
   -- any value may be written
   any-value : (state : ℕ) → value-allowed o state ≡ true
@@ -62,6 +75,9 @@ module _ (c : List ℕ) (o : Object) (see : Seen) (kind : of-session (o .kind) �
   action-writes EraseAndWrite w =
       record { refusal = BoundaryExceeded; asks = refl; judges = rw (any-value (getD (sent-data c) 0 0)); silent = refl; puts = rw kind }
   action-writes SetMetadata w = record { refusal = InvalidData; asks = rw kind; judges = refl; silent = refl; puts = refl }
+  action-writes Count w =
+      let judged = count-judged (is-counter (o .kind)) (eqb (offset c) 0) (exhausted (direction (o .kind)) (o .content)) in
+      record { refusal = _; asks = refl; judges = judged; silent = refl; puts = refl }
 
 -- one command on a ready element -------------------------------------------------------------------------------------------
 

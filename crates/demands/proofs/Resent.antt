@@ -11,7 +11,7 @@ use Rattle.rules.specs.declared.Session.{Session}
 use Rattle.rules.specs.declared.Kind.the-variants.{LifeCycle, Status}
 use Rattle.rules.specs.declared.Refusal.{Refusal}
 use Rattle.rules.specs.declared.Action.{Action}
-use Rattle.rules.specs.declared.Action.the-variants.{GetData, GetMetadata, Write, EraseAndWrite, SetMetadata}
+use Rattle.rules.specs.declared.Action.the-variants.{GetData, GetMetadata, Write, EraseAndWrite, SetMetadata, Count}
 use Rattle.rules.specs.declared.Row.{Row}
 use Rattle.rules.specs.declared.Row.the-variants.{OnObject, OpenApplication, CloseApplication, Unknown}
 use Rattle.rules.specs.declared.Verdict.{Verdict}
@@ -19,7 +19,7 @@ use Rattle.rules.specs.declared.Verdict.the-variants.{Refused}
 use Rattle.rules.specs.Basic.{if_then_else_, or-else, is-some, first-of}
 use Rattle.rules.specs.Command.{row, asks-flush, object-number}
 use Rattle.rules.specs.Response.{code}
-use Rattle.rules.specs.Object.{Object, of-session, is, kind-number}
+use Rattle.rules.specs.Object.{Object, of-session, is-counter, is, kind-number}
 use Rattle.rules.specs.Layout.{unpack, find}
 use Rattle.rules.specs.Session.{session-change, session-object, session-objects, with-error}
 use Rattle.rules.specs.Chain.{_refused_or_, _and-then_}
@@ -39,12 +39,13 @@ module _ (c : List ℕ) (see : Seen) (room n m : ℕ) where
   byte-late a b = late (ruling-on a c (some (session-object 0xF1C2 Status b)) see) room
 
   error-same : (a : Action) → byte-late a n ≡ byte-late a m
-  unfolding late ruling-on granted asked operation session-object session-change of-session is kind-number holds _refused_or_ _and-then_
+  unfolding late ruling-on granted asked operation session-object session-change of-session is-counter is kind-number holds _refused_or_ _and-then_
   error-same GetData = simp (length-take, length-drop)
   error-same GetMetadata = refl
   error-same Write = refl
   error-same EraseAndWrite = refl
   error-same SetMetadata = refl
+  error-same Count = refl
 
 module _ (c : List ℕ) (room : ℕ) (n : ℕ) (s : Session) (os : List Object) where
   abbrev after : Seen

@@ -10,25 +10,29 @@ use native.Mathlib.Omega.{arith}
 use lib.ListN.{length, replicate}
 use Rattle.mixing.specs.Runs.{Mix, both-used-up, first, second, All, Mixed}
 use Rattle.rules.specs.declared.Session.{Session}
-use Rattle.rules.specs.declared.Action.the-variants.{Write, EraseAndWrite, SetMetadata}
-use Rattle.rules.specs.Basic.{all, among, same, rising-from, rising, zeros}
+use Rattle.rules.specs.declared.Action.the-variants.{Write, EraseAndWrite, SetMetadata, Count}
+use Rattle.rules.specs.declared.Kind.the-variants.{Counter}
+use Rattle.rules.specs.declared.Direction.the-variants.{Up}
+use Rattle.rules.specs.Basic.{all, among, same, rising-from, rising, zeros, big-endian-4, big-endian-4-at}
 use Rattle.rules.specs.Hex.{ascii, digits, pairs, hex}
-use Rattle.rules.specs.Command.{asks-flush, cmd, param, in-length, in-data, size-right, table-line, command-table, line-in, line-of, row, object-number, offset, asked-length, sent-data, sent-metadata, object-of}
+use Rattle.rules.specs.Command.{asks-flush, cmd, param, in-length, in-data, size-right, table-line, command-table, line-in, line-of, row, object-number, offset, asked-length, sent-data, step-byte, sent-metadata, object-of}
 use Rattle.rules.specs.Response.{done-response, put-in-front}
-use Rattle.rules.specs.Expression.{is-state, may-become}
-use Rattle.rules.specs.Object.{Object, in-session, with-content}
-use Rattle.rules.specs.Layout.{find, replaced}
+use Rattle.rules.specs.Expression.{is-state, may-become, always, expression-allowed-with}
+use Rattle.rules.specs.Object.{Object, kind-number, is, is-counter, direction, data-allowed, in-session, object-allowed-with, all-allowed-with, with-content}
+use Rattle.rules.specs.Layout.{size-with, objects-allowed-with, pack, find, replaced}
+use Rattle.rules.specs.Counter.{moved, at-or-past, counted, value, threshold, exhausted, after-count}
 use Rattle.rules.specs.Factory.{entry, table, before-operational, made, factory-objects, factory-store, fresh-session}
 use Rattle.rules.specs.Session.{with-opened, with-error}
 use Rattle.rules.specs.Metadata.{field, fields-bytes, led-by-20, read-fields, sent-fields, field-allowed, fields-allowed, metadata-allowed}
 use Rattle.rules.specs.Access.{seen, present, condition-holds, group-holds, groups-hold, holds}
-use Rattle.rules.specs.Operation.{put-at}
+use Rattle.rules.specs.Operation.{put-at, write-fits}
 use Rattle.rules.specs.Refusals.{ill-sized, wrong-length}
 use Rattle.rules.specs.Step.{flushed, step}
 use Rattle.rules.specs.Run.{Turn, Kept, reply, left, reads-or-writes}
 use Rattle.demands.specs.Demand.{is-done, Ready, well-formed, writes, content-allowed, changed, MayWrite, WritesExactly, MayRead, session-byte, MayReadByte, after-byte, Shown}
 use Rattle.demands.specs.Demand.{Plain, Names, TwoLists}
 use Rattle.laws.proofs.Factory.{factory-sound}
+use Rattle.laws.proofs.Inverse.{unpack-pack}
 use Rattle.demands.proofs.Demand2.{write-exactly-when, read-exactly-when}
 use Rattle.demands.proofs.Shown.{read-only-when, byte-read-when}
 use Rattle.demands.proofs.Demand3.{lists-mix}
@@ -46,7 +50,7 @@ F1D0 = made (entry 0xF1D0 140)
 
 -- `unfolding computed` opens what a record of assumptions speaks of
 computed : List Bool
-unfolding opened room F1D0 all among same rising-from rising ascii digits pairs hex asks-flush cmd param in-length in-data size-right table-line command-table line-in line-of row object-number offset asked-length sent-data sent-metadata is-state may-become seen present condition-holds group-holds groups-hold holds in-session find entry table before-operational made factory-objects fresh-session with-opened with-error field fields-bytes led-by-20 read-fields sent-fields field-allowed fields-allowed metadata-allowed with-content put-at ill-sized wrong-length flushed well-formed writes content-allowed changed session-byte reads-or-writes object-of
+unfolding opened room F1D0 all among same rising-from rising ascii digits pairs hex asks-flush cmd param in-length in-data size-right table-line command-table line-in line-of row object-number offset asked-length sent-data step-byte sent-metadata is-state may-become seen present condition-holds group-holds groups-hold holds in-session find entry table before-operational made factory-objects fresh-session with-opened with-error field fields-bytes led-by-20 read-fields sent-fields field-allowed fields-allowed metadata-allowed with-content put-at write-fits kind-number is is-counter direction big-endian-4 big-endian-4-at moved at-or-past counted value threshold exhausted after-count ill-sized wrong-length flushed well-formed writes content-allowed changed session-byte reads-or-writes object-of
 computed = []
 
 pub factory-ready : Ready room factory-store opened factory-objects
@@ -123,6 +127,41 @@ pub error-read : step P9 room factory-store erred ≡
     record { outcome = 0; room = put-in-front (done-response (0x07 ∷ [])) room; store = factory-store; session = opened }
 unfolding computed P9 erred after-byte
 error-read = byte-read-when P9 room factory-store erred factory-objects 0x07 erred-ready refl may-read-byte
+
+-- a counter of 255 trips to 300, and a count of 45 that brings it there
+unfoldable pub E120 : Object
+E120 =
+    record {
+      number = 0xE120;
+      kind = Counter Up;
+      maximum = 8;
+      lcso = 0x01;
+      change = always;
+      read = always;
+      execute = always;
+      content = hex "00 00 00 FF 00 00 01 2C";
+    }
+
+unfoldable pub count-45 : List ℕ
+count-45 = hex "02 02 00 05 E1 20 00 00 2D"
+
+pub counter-ready : Ready room (pack (E120 ∷ [])) opened (E120 ∷ [])
+unfolding computed E120 size-with objects-allowed-with object-allowed-with all-allowed-with expression-allowed-with data-allowed
+counter-ready = let sound = unpack-pack (E120 ∷ []) refl in search (sound, arith)
+
+pub may-count : MayWrite Count count-45 (seen (E120 ∷ []) opened) E120
+unfolding computed E120 count-45
+may-count = search
+
+pub counts-on : step count-45 room (pack (E120 ∷ [])) opened ≡
+    record {
+      outcome = 0;
+      room = put-in-front (done-response []) room;
+      store = pack (with-content (hex "00 00 01 2C 00 00 01 2C") E120 ∷ []);
+      session = opened;
+    }
+unfolding computed E120 count-45 replaced
+counts-on = write-exactly-when count-45 room (pack (E120 ∷ [])) opened (E120 ∷ []) E120 counter-ready Count refl refl refl .when may-count
 
 -- two lists, and a mix of them that takes from each in turn ---------------------------------------------------------------------------
 

@@ -11,17 +11,18 @@ use Rattle.mixing.specs.Runs.{All}
 use Rattle.rules.specs.declared.Session.{Session}
 use Rattle.rules.specs.declared.Refusal.{Refusal}
 use Rattle.rules.specs.declared.Action.{Action}
-use Rattle.rules.specs.declared.Action.the-variants.{GetData, GetMetadata, Write, EraseAndWrite, SetMetadata}
+use Rattle.rules.specs.declared.Action.the-variants.{GetData, GetMetadata, Write, EraseAndWrite, SetMetadata, Count}
 use Rattle.rules.specs.Basic.{if_then_else_, among}
-use Rattle.rules.specs.Command.{asks-flush, object-number, offset, asked-length, sent-data, sent-metadata, object-of}
+use Rattle.rules.specs.Command.{asks-flush, object-number, offset, asked-length, sent-data, step-byte, sent-metadata, object-of}
 use Rattle.rules.specs.Response.{code, done-response, refused-response, put-in-front}
 use Rattle.rules.specs.Expression.{is-state}
-use Rattle.rules.specs.Object.{Object, used, in-session, with-content}
+use Rattle.rules.specs.Object.{Object, used, is-counter, direction, in-session, with-content}
+use Rattle.rules.specs.Counter.{exhausted, after-count}
 use Rattle.rules.specs.Layout.{unpack, pack, find, replaced}
 use Rattle.rules.specs.Session.{with-error}
 use Rattle.rules.specs.Metadata.{Field, fields-bytes, object-fields, led-by-20, metadata-allowed, sent-fields, with-fields}
 use Rattle.rules.specs.Access.{Seen, seen, holds}
-use Rattle.rules.specs.Operation.{put-at}
+use Rattle.rules.specs.Operation.{put-at, write-fits}
 use Rattle.rules.specs.Refusals.{ill-sized, wrong-length}
 use Rattle.rules.specs.Step.{After, raised, flushed}
 use Rattle.rules.specs.Run.{Turn, reads-or-writes}
@@ -75,19 +76,22 @@ pub record Ready (room store : List ℕ) (s : Session) (os : List Object) : Type
 unfoldable pub well-formed : List ℕ → Bool
 well-formed c = not (ill-sized c) && not (wrong-length c)
 
--- a write to a stored object: data, erasing or not, and metadata
+-- a write to a stored object: data, erasing or not, metadata, and a count
 unfoldable pub writes : Action → Bool
 writes Write = true
 writes EraseAndWrite = true
 writes SetMetadata = true
+writes Count = true
 writes GetData = false
 writes GetMetadata = false
 
 -- the content is allowed and fits
 unfoldable pub content-allowed : Action → List ℕ → Object → Bool
-content-allowed Write c o = leb (offset c + length (sent-data c)) (o .maximum)
-content-allowed EraseAndWrite c o = leb (offset c + length (sent-data c)) (o .maximum)
+content-allowed Write c o = write-fits o (offset c) (length (sent-data c))
+content-allowed EraseAndWrite c o = write-fits o (offset c) (length (sent-data c))
 content-allowed SetMetadata c o = metadata-allowed (o .lcso) (sent-metadata c)
+-- at offset 0 of a counter that is not at or past its threshold
+content-allowed Count c o = is-counter (o .kind) && eqb (offset c) 0 && not (exhausted (direction (o .kind)) (o .content))
 content-allowed GetData c o = true
 content-allowed GetMetadata c o = true
 
@@ -96,6 +100,7 @@ unfoldable pub changed : Action → List ℕ → Object → Object
 changed Write c o = with-content (put-at (offset c) (sent-data c) (o .content)) o
 changed EraseAndWrite c o = with-content (put-at (offset c) (sent-data c) []) o
 changed SetMetadata c o = with-fields (sent-fields (sent-metadata c)) o
+changed Count c o = with-content (after-count (direction (o .kind)) (step-byte c) (o .content)) o
 changed GetData c o = o
 changed GetMetadata c o = o
 

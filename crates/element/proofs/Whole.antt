@@ -15,13 +15,13 @@ use Rattle.rules.specs.declared.Refusal.{Refusal}
 use Rattle.rules.specs.declared.Verdict.{Verdict}
 use Rattle.rules.specs.declared.Verdict.the-variants.{Refused, Accepted}
 use Rattle.rules.specs.declared.Action.{Action}
-use Rattle.rules.specs.declared.Action.the-variants.{GetData, GetMetadata, Write, EraseAndWrite, SetMetadata}
+use Rattle.rules.specs.declared.Action.the-variants.{GetData, GetMetadata, Write, EraseAndWrite, SetMetadata, Count}
 use Rattle.rules.specs.declared.Row.{Row}
 use Rattle.rules.specs.declared.Row.the-variants.{OnObject, OpenApplication, CloseApplication, Unknown}
 use Rattle.rules.specs.Basic.{is-some, or-else}
-use Rattle.rules.specs.Command.{row, object-number, offset, asked-length, sent-data}
+use Rattle.rules.specs.Command.{row, object-number, offset, asked-length}
 use Rattle.rules.specs.Response.{code, done-response, refused-response, put-in-front}
-use Rattle.rules.specs.Object.{Object, used, of-session}
+use Rattle.rules.specs.Object.{Object, used, of-session, object-allowed}
 use Rattle.rules.specs.Layout.{pack, unpack, found}
 use Rattle.rules.specs.Factory.{fresh-session}
 use Rattle.rules.specs.Session.{session-object, with-opened}
@@ -34,7 +34,7 @@ use Rattle.laws.proofs.Tests.{some-else}
 use Rattle.laws.proofs.Facts.{allowed}
 use Rattle.laws.proofs.Inverse.{pack-unpack}
 use Rattle.laws.proofs.Verdicts.{passed, fitting-passed, fitting-accepts, LatePassed, late-passed}
-use Rattle.laws.proofs.Fitting.{operation-fitting, operation-outside}
+use Rattle.laws.proofs.Fitting.{write-within, operation-fitting, operation-outside}
 use Rattle.laws.proofs.Views.{Alike, operation-alike, session-left}
 use Rattle.laws.proofs.Puts.{shown-length}
 use Rattle.record.specs.Places.{object-at, Stored}
@@ -72,17 +72,19 @@ session-told GetMetadata c k byte room h = absurd (not-accepted h)
 session-told Write c k byte room h = fitting-passed 0 room (passed _ _ _ (passed _ _ _ (passed _ _ _ h .1) .1) .1)
 session-told EraseAndWrite c k byte room h = fitting-passed 0 room (passed _ _ _ (passed _ _ _ (passed _ _ _ h .1) .1) .1)
 session-told SetMetadata c k byte room h = absurd (not-accepted h)
+session-told Count c k byte room h = absurd (not-accepted (passed _ _ _ h .1))
 
 -- and at a found record
-record-told : (a : Action) (c : List ℕ) (o : Object) (see : Seen) (room : ℕ) → LatePassed a c o see room → OnRecordMay a c o room
+record-told : (a : Action) (c : List ℕ) (o : Object) (see : Seen) (room : ℕ) → object-allowed o ≡ true → LatePassed a c o see room → OnRecordMay a c o room
 unfolding operation
-record-told GetData c o see room l =
+record-told GetData c o see room ok l =
     let within = leb-true (offset c + asked-length c) (used o) (not-false _ (passed _ _ _ (l .own) .0)) in
     (within, omega (arith, l .fits, shown-length c (o .content) within))
-record-told GetMetadata c o see room l = l .fits
-record-told Write c o see room l = (leb-true (offset c + length (sent-data c)) (o .maximum) (not-false _ (passed _ _ _ (l .own) .0)), l .fits)
-record-told EraseAndWrite c o see room l = (leb-true (offset c + length (sent-data c)) (o .maximum) (not-false _ (passed _ _ _ (l .own) .0)), l .fits)
-record-told SetMetadata c o see room l = (not-false _ (passed _ _ _ (l .own) .0), l .fits)
+record-told GetMetadata c o see room ok l = l .fits
+record-told Write c o see room ok l = (write-within o _ _ ok (not-false _ (passed _ _ _ (l .own) .0)) .within, l .fits)
+record-told EraseAndWrite c o see room ok l = (write-within o _ _ ok (not-false _ (passed _ _ _ (l .own) .0)) .within, l .fits)
+record-told SetMetadata c o see room ok l = (not-false _ (passed _ _ _ (l .own) .0), l .fits)
+record-told Count c o see room ok l = (not-false _ (passed _ _ _ (l .own) .0), l .fits)
 
 -- what is done at an object of the session does not depend on its kind, nor on stored objects
 session-alike : (a : Action) (c : List ℕ) (n byte room : ℕ) (k : Kind) (os : List Object) (s : Session) → InSessionMay a c room →
@@ -94,6 +96,7 @@ session-alike GetMetadata c n byte room k os s m = absurd m
 session-alike Write c n byte room k os s m = (refl, refl)
 session-alike EraseAndWrite c n byte room k os s m = (refl, refl)
 session-alike SetMetadata c n byte room k os s m = absurd m
+session-alike Count c n byte room k os s m = absurd m
 
 module _ (a : Action) (c b : List ℕ) (s : Session) (aim : Target) (t : Placed aim c b) where
   abbrev os : List Object
@@ -115,7 +118,9 @@ module _ (a : Action) (c b : List ℕ) (s : Session) (aim : Target) (t : Placed 
     record-late p e = late-passed a c (object-at p b) see room (rw e at h)
 
     pub record-may : (p : ℕ) → aim ≡ InStore p → OnRecordMay a c (object-at p b) room
-    record-may p e = record-told a c (object-at p b) see room (record-late p e)
+    record-may p e =
+        let there : Stored p b × (found (object-number c) os ≡ found-at.At p) = rw e at t in
+        record-told a c (object-at p b) see room (standing p b (there .0 .stands) .allowed) (record-late p e)
 
     pub nothing-late : aim ≡ Nothing → ⊥
     unfolding target-object late ruling-on _and-then_
@@ -139,7 +144,7 @@ module _ (a : Action) (c b : List ℕ) (s : Session) (aim : Target) (t : Placed 
       nothing-stored n k byte e (some new) q =
           let of : of-session k ≡ true = rw e at t in
           let l = late-passed a c (session-object (n .0) k byte) see (length room) (rw e at h) in
-          absurd (false≢true (told (operation-outside a c (session-object (n .0) k byte) see new (l .granted) q) of))
+          absurd (false≢true (told (operation-outside a c (session-object (n .0) k byte) see new (l .granted) (l .own) q) of))
 
       pub session-done : (n : ObjectNumber) (k : Kind) (byte : ℕ) (r : Session) → aim ≡ InSession n k byte → r ≡ session-does a c (n .0) byte s .session →
           xs ≡ put-in-front (done-response (session-does a c (n .0) byte s .answer)) room →

@@ -1,39 +1,44 @@
 -- Steps 10 to 13, action by action, at an object of the session and at a found record.
-use Prim.Native.Nat.{ℕ, _+_}
-use mathlib.Core.Path.{_≡_, refl, sym, _∙_}
-use mathlib.Core.Bool.{Bool, true, false, not}
+use Prim.Native.Nat.{ℕ, _+_, _≤_}
+use mathlib.Core.Path.{_≡_, refl, sym, ap, _∙_}
+use mathlib.Core.Bool.{Bool, true, false, not, _&&_}
 use mathlib.Core.List.{List}
+use native.Mathlib.Omega.{arith}
 use mathlib.Core.Option.{some}
-use borrow.Author.Tests.{leb-true}
-use lib.Dec.{leb}
-use lib.ListN.{length, getD}
-use lib.Seq.{getD-drop}
+use borrow.Author.Tests.{eqb-true, leb-true, not-false}
+use lib.Dec.{eqb, leb}
+use lib.ListN.{length, getD, take, drop}
+use lib.Seq.{getD-drop, take-all}
 use Rattle.rules.specs.declared.Kind.{Kind}
-use Rattle.rules.specs.declared.Kind.the-variants.{LifeCycle}
+use Rattle.rules.specs.declared.Kind.the-variants.{Counter, LifeCycle}
+use Rattle.rules.specs.declared.Direction.{Direction}
+use Rattle.rules.specs.declared.Direction.the-variants.{Up, Down}
 use Rattle.rules.specs.declared.ObjectNumber.{ObjectNumber}
 use Rattle.rules.specs.declared.Verdict.{Verdict}
 use Rattle.rules.specs.declared.Verdict.the-variants.{Accepted}
 use Rattle.rules.specs.declared.Refusal.{Refusal}
 use Rattle.rules.specs.declared.Refusal.the-variants.{AccessDenied, BoundaryExceeded, InvalidData}
 use Rattle.rules.specs.declared.Action.{Action}
-use Rattle.rules.specs.declared.Action.the-variants.{GetData, GetMetadata, Write, EraseAndWrite, SetMetadata}
+use Rattle.rules.specs.declared.Action.the-variants.{GetData, GetMetadata, Write, EraseAndWrite, SetMetadata, Count}
 use Rattle.rules.specs.Command.{offset, asked-length, sent-data, sent-metadata}
 use Rattle.rules.specs.Expression.{may-become}
-use Rattle.rules.specs.Object.{Object, used, is, of-session}
+use Rattle.rules.specs.Object.{Object, used, kind-number, is, of-session, is-counter, direction, counter-size}
+use Rattle.rules.specs.Counter.{exhausted}
 use Rattle.rules.specs.Metadata.{metadata-allowed}
 use Rattle.rules.specs.Session.{session-change, session-object}
 use Rattle.rules.specs.Chain.{_refused_or_, _and-then_}
 use Rattle.rules.specs.Access.{Seen, holds, asked, granted}
-use Rattle.rules.specs.Operation.{value-allowed, operation}
+use Rattle.rules.specs.Operation.{write-fits, value-allowed, operation}
 use Rattle.rules.specs.Refusals.{ruling-on, fitting, late}
 use Rattle.laws.proofs.Tests.{or-parts}
 use Rattle.laws.proofs.Puts.{shown-length}
+use Rattle.laws.proofs.Fitting.{counter-content}
 use Rattle.record.specs.Places.{object-at, Stored}
-use Rattle.record.proofs.Standing.{stored-kind}
+use Rattle.record.proofs.Standing.{standing, stored-kind}
 use Rattle.judge.specs.declared.Target.{Target}
 use Rattle.judge.specs.declared.Target.the-variants.{InSession, InStore}
 use Rattle.judge.specs.Targets.{target-object, Placed}
-use Rattle.judge.specs.Verdicts.{get-verdict, write-verdict, state-verdict, session-verdict}
+use Rattle.judge.specs.Verdicts.{get-verdict, write-verdict, count-verdict, state-verdict, session-count-verdict, session-verdict}
 
 -- what the calls gave ---------------------------------------------------------------------------------------------------------
 
@@ -43,6 +48,39 @@ module _ (c : List ℕ) (k : ℕ) (ek : k ≡ offset c) (q : Bool) (m : ℕ) whe
 
   pub sent-within : (d : List ℕ) → d ≡ sent-data c → q ≡ leb (k + length d) m → q ≡ leb (offset c + length (sent-data c)) m
   sent-within d ed eq = cc
+
+-- a write to a counter, and to another object
+module _ (o : Object) (c d : List ℕ) (k : ℕ) (ek : k ≡ offset c) (ed : d ≡ sent-data c) (q r : Bool) (eq : q ≡ is-counter (o .kind)) where
+  pub fits-counter : q ≡ true → r ≡ (eqb k 0 && eqb (length d) counter-size) → r ≡ write-fits o (offset c) (length (sent-data c))
+  unfolding write-fits
+  fits-counter t f = rw (← eq, t, ← ek, ← ed) f
+
+  pub fits-other : (m : ℕ) → q ≡ false → m ≡ o .maximum → r ≡ leb (k + length d) m → r ≡ write-fits o (offset c) (length (sent-data c))
+  unfolding write-fits
+  fits-other m t em f = rw (← eq, t, ← ek, ← ed, ← em) f
+
+-- the front of an object
+pub front-told : (c : List ℕ) (k : ℕ) → k ≡ offset c → eqb k 0 ≡ eqb (offset c) 0
+front-told c k e = cc
+
+pub counter-told : (o : Object) (q : Bool) → q ≡ is-counter (o .kind) → not q ≡ false → is-counter (o .kind) ≡ true
+counter-told o q e h = sym e ∙ not-false q h
+
+-- the counter at a found record: all of its data is in use
+module _ (p : ℕ) (b : List ℕ) (t : Stored p b) (h : is-counter (object-at p b .kind) ≡ true) where
+  pub counter-long : 0 + counter-size ≤ used (object-at p b)
+  counter-long = omega (arith, counter-content (object-at p b) (standing p b (t .stands) .allowed) h)
+
+  module _ (d : List ℕ) (e : d ≡ take counter-size (drop 0 (object-at p b .content))) where
+    whole : d ≡ object-at p b .content
+    whole = e ∙ take-all counter-size (object-at p b .content) (omega (arith, counter-content (object-at p b) (standing p b (t .stands) .allowed) h))
+
+    pub counter-part : length d ≡ counter-size
+    counter-part = ap length whole ∙ counter-content (object-at p b) (standing p b (t .stands) .allowed) h
+
+    pub exhausted-there : (w : Direction) (r : Bool) → w ≡ direction (object-at p b .kind) → r ≡ exhausted w d →
+        r ≡ exhausted (direction (object-at p b .kind)) (object-at p b .content)
+    exhausted-there w r ew f = rw (← ew, ← whole) f
 
 pub becomes : (c : List ℕ) (byte : ℕ) (a : Bool) → a ≡ may-become byte (getD c 8 0) → a ≡ may-become byte (getD (sent-data c) 0 0)
 unfolding sent-data
@@ -58,6 +96,11 @@ fitting-told n m room r e f = rw (← e) f
 -- a match's arm
 pub kind-by : (w v : Kind) (r : Bool) → w ≡ v → r ≡ is LifeCycle v → r ≡ is LifeCycle w
 kind-by w v r e f = rw e f
+
+pub not-life-cycle : (d : Direction) → false ≡ is LifeCycle (Counter d)
+unfolding is kind-number
+not-life-cycle Up = refl
+not-life-cycle Down = refl
 
 pub session-by : (w v : Action) (c : List ℕ) (k : Kind) (byte room : ℕ) (r : Verdict) → w ≡ v → r ≡ session-verdict v c k byte room →
     r ≡ session-verdict w c k byte room
@@ -88,16 +131,35 @@ module _ (c : List ℕ) (o : Object) (see : Seen) (room : ℕ) where
       by true e = rw (e, shown-length c (o .content) (leb-true _ _ e))
       by false e = rw e
 
+  count-own : count-verdict c o room ≡ own Count
+  unfolding operation _and-then_
+  count-own = simp then-later
+
 -- at an object of the session -----------------------------------------------------------------------------------------------
+
+-- a life cycle is no counter
+no-counter : (k : Kind) → is LifeCycle k ≡ true → is-counter k ≡ false
+unfolding is is-counter kind-number
+no-counter k h = rw (← eqb-true 0x10001 (kind-number k) h)
 
 -- a write: of the kind, only whether it is a life cycle counts
 state-judged : (c : List ℕ) (n byte : ℕ) (k : Kind) (see : Seen) (room : ℕ) →
     state-verdict c k byte room ≡ late (ruling-on Write c (some (session-object n k byte)) see) room
-unfolding late ruling-on granted asked session-object session-change holds operation value-allowed _refused_or_ _and-then_
+unfolding late ruling-on granted asked session-object session-change holds operation write-fits value-allowed _refused_or_ _and-then_
 state-judged c n byte k see room = by (is LifeCycle k) refl
   where
     by : (t : Bool) → is LifeCycle k ≡ t → state-verdict c k byte room ≡ late (ruling-on Write c (some (session-object n k byte)) see) room
-    by true e = rw e (simp then-later)
+    by true e = rw (e, no-counter k e) (simp then-later)
+    by false e = rw e
+
+-- a count
+count-judged : (c : List ℕ) (n byte : ℕ) (k : Kind) (see : Seen) (room : ℕ) →
+    session-count-verdict k ≡ late (ruling-on Count c (some (session-object n k byte)) see) room
+unfolding late ruling-on granted asked session-object session-change holds operation _refused_or_ _and-then_
+count-judged c n byte k see room = by (is LifeCycle k) refl
+  where
+    by : (t : Bool) → is LifeCycle k ≡ t → session-count-verdict k ≡ late (ruling-on Count c (some (session-object n k byte)) see) room
+    by true e = rw (e, no-counter k e)
     by false e = rw e
 
 module _ (c : List ℕ) (n byte : ℕ) (k : Kind) (see : Seen) (room : ℕ) (of : of-session k ≡ true) where
@@ -108,6 +170,7 @@ module _ (c : List ℕ) (n byte : ℕ) (k : Kind) (see : Seen) (room : ℕ) (of 
   session-judged Write = state-judged c n byte k see room
   session-judged EraseAndWrite = state-judged c n byte k see room
   session-judged SetMetadata = rw of
+  session-judged Count = count-judged c n byte k see room
 
 -- at a found record ---------------------------------------------------------------------------------------------------------
 
@@ -123,12 +186,15 @@ module _ (p : ℕ) (b c : List ℕ) (room : ℕ) (r : Verdict) where
     pub stored-get : (u : ℕ) → u ≡ used (object-at p b) → r ≡ get-verdict c u room → r ≡ own c (object-at p b) see room GetData
     stored-get u eu f = cc (get-own c (object-at p b) see room)
 
+    pub stored-count : r ≡ count-verdict c (object-at p b) room → r ≡ own c (object-at p b) see room Count
+    stored-count f = f ∙ count-own c (object-at p b) see room
+
   -- of either action that writes
-  pub stored-write : Stored p b → (m : ℕ) → m ≡ object-at p b .maximum → r ≡ write-verdict c m room →
-      r ≡ ((not (leb (offset c + length (sent-data c)) (object-at p b .maximum)) refused BoundaryExceeded or
+  pub stored-write : Stored p b → r ≡ write-verdict c (object-at p b) room →
+      r ≡ ((not (write-fits (object-at p b) (offset c) (length (sent-data c))) refused BoundaryExceeded or
       not (value-allowed (object-at p b) (getD (sent-data c) 0 0)) refused InvalidData or Accepted) and-then fitting 0 room)
   unfolding _refused_or_ _and-then_
-  stored-write t m em f = rw (then-later, any-value, ← em) f
+  stored-write t f = rw (then-later, any-value) f
     where
       any-value : value-allowed (object-at p b) (getD (sent-data c) 0 0) ≡ true
       any-value = unfold value-allowed of-session in rw (or-parts (is LifeCycle (object-at p b .kind)) _ (stored-kind p b t) .0)

@@ -2,20 +2,22 @@
 use Prim.Native.Nat.{ℕ, _+_}
 use mathlib.Core.Bool.{not}
 use mathlib.Core.List.{List}
-use lib.Dec.{leb}
+use lib.Dec.{eqb, leb}
 use lib.ListN.{length, getD}
 use Rattle.rules.specs.declared.Kind.{Kind}
 use Rattle.rules.specs.declared.Kind.the-variants.{LifeCycle}
 use Rattle.rules.specs.declared.Action.{Action}
-use Rattle.rules.specs.declared.Action.the-variants.{GetData, GetMetadata, Write, EraseAndWrite, SetMetadata}
-use Rattle.rules.specs.declared.Refusal.the-variants.{AccessDenied, BoundaryExceeded, InvalidData}
+use Rattle.rules.specs.declared.Action.the-variants.{GetData, GetMetadata, Write, EraseAndWrite, SetMetadata, Count}
+use Rattle.rules.specs.declared.Refusal.the-variants.{InvalidParam, AccessDenied, BoundaryExceeded, InvalidData}
 use Rattle.rules.specs.declared.Verdict.{Verdict}
 use Rattle.rules.specs.declared.Verdict.the-variants.{Refused}
 use Rattle.rules.specs.Command.{offset, asked-length, sent-data}
 use Rattle.rules.specs.Expression.{may-become}
-use Rattle.rules.specs.Object.{is}
+use Rattle.rules.specs.Object.{Object, is, is-counter, direction}
+use Rattle.rules.specs.Counter.{exhausted}
 use Rattle.rules.specs.Metadata.{metadata-allowed}
 use Rattle.rules.specs.Chain.{_refused_or_}
+use Rattle.rules.specs.Operation.{write-fits}
 use Rattle.rules.specs.Refusals.{fitting}
 
 -- a get of data, where `limit` bytes are used
@@ -24,11 +26,25 @@ get-verdict c limit room =
     not (leb (offset c + asked-length c) limit) refused BoundaryExceeded or
     fitting (asked-length c) room
 
--- a write of data, where the maximum is `limit`
-abbrev pub write-verdict : List ℕ → ℕ → ℕ → Verdict
-write-verdict c limit room =
-    not (leb (offset c + length (sent-data c)) limit) refused BoundaryExceeded or
+-- a write of data
+abbrev pub write-verdict : List ℕ → Object → ℕ → Verdict
+write-verdict c o room =
+    not (write-fits o (offset c) (length (sent-data c))) refused BoundaryExceeded or
     fitting 0 room
+
+-- a count
+abbrev pub count-verdict : List ℕ → Object → ℕ → Verdict
+count-verdict c o room =
+    not (is-counter (o .kind)) refused InvalidParam or
+    not (eqb (offset c) 0) refused BoundaryExceeded or
+    exhausted (direction (o .kind)) (o .content) refused BoundaryExceeded or
+    fitting 0 room
+
+-- a count of an object of the session, access included
+abbrev pub session-count-verdict : Kind → Verdict
+session-count-verdict k =
+    is LifeCycle k refused InvalidParam or
+    Refused AccessDenied
 
 -- a write to an object of the session, access included
 abbrev pub state-verdict : List ℕ → Kind → ℕ → ℕ → Verdict
@@ -51,3 +67,4 @@ session-verdict GetMetadata c k byte room = Refused AccessDenied
 session-verdict Write c k byte room = state-verdict c k byte room
 session-verdict EraseAndWrite c k byte room = state-verdict c k byte room
 session-verdict SetMetadata c k byte room = Refused AccessDenied
+session-verdict Count c k byte room = session-count-verdict k

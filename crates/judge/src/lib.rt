@@ -4,6 +4,7 @@ use rules::Found;
 use rules::Kind;
 use rules::Length;
 use rules::ObjectNumber;
+use rules::Offset;
 use rules::Refusal;
 use rules::Session;
 use rules::Verdict;
@@ -14,15 +15,17 @@ ghost use Prim.Native.Nat.{_≤_};
 ghost use lib.ListN.{length};
 ghost use Rattle.rules.specs.declared.Kind.the-variants.{LifeCycle};
 ghost use Rattle.rules.specs.Basic.{is-some};
-ghost use Rattle.rules.specs.Command.{object-number, sent-metadata};
-ghost use Rattle.rules.specs.Object.{is};
+ghost use Rattle.rules.specs.Command.{object-number, offset, sent-data, sent-metadata};
+ghost use Rattle.rules.specs.Object.{is, is-counter, direction};
 ghost use Rattle.rules.specs.Layout.{unpack};
+ghost use Rattle.rules.specs.Counter.{exhausted};
 ghost use Rattle.rules.specs.Access.{seen-in, named};
+ghost use Rattle.rules.specs.Operation.{write-fits};
 ghost use Rattle.rules.specs.Refusals.{ruling-on, late};
 ghost use Rattle.command.specs.Table.{InFull};
 ghost use Rattle.record.specs.Places.{object-at, Stored};
 ghost use Rattle.judge.specs.Targets.{target-object, Placed};
-ghost use Rattle.judge.specs.Verdicts.{get-verdict, write-verdict, state-verdict, metadata-verdict, session-verdict};
+ghost use Rattle.judge.specs.Verdicts.{get-verdict, write-verdict, state-verdict, metadata-verdict, count-verdict, session-count-verdict, session-verdict};
 
 // What a get or set names: an object of the session (its number, kind and byte), a record's place, or nothing.
 pub enum Target {
@@ -65,13 +68,53 @@ fn judge_get(command: &[u8], limit: Length, room: usize) -> Verdict
     command::fitting(count, room)
 }
 
-// Steps 11 and 13 of a write of data, to an object of at most `limit` bytes.
-fn judge_write(command: &[u8], limit: Length, room: usize) -> Verdict
-    requires { ⌜ 8 ≤ length (now command) ⌝ }
-    ensures { λ r. ⌜ r ≡ write-verdict (now (command .entry)) (limit .0) room ⌝ }
+// Whether what is sent fits the object of a found record: a counter takes all of its bytes at once.
+fn write_fits(command: &[u8], store: &[u8], at: usize) -> bool
+    requires { ⌜ Stored at (now store) × (8 ≤ length (now command)) ⌝ }
+    ensures { λ r. ⌜ r
+        ≡ write-fits (object-at at (now (store .entry))) (offset (now (command .entry))) (length (sent-data (now (command .entry)))) ⌝ }
 {
-    let data = command::sent_data(command);
-    if !command::fits(command::offset(command), Length(data.len()), limit) {
+    let from = command::offset(command);
+    let count = Length(command::sent_data(command).len());
+    if record::is_counter(store, at) {
+        return primitives::and(from.0 == 0, count.0 == counter::SIZE);
+    }
+    command::fits(from, count, record::maximum_at(store, at))
+}
+
+// Steps 11 and 13 of a write of data to a found record.
+fn judge_write(command: &[u8], store: &[u8], at: usize, room: usize) -> Verdict
+    requires { ⌜ Stored at (now store) × (8 ≤ length (now command)) ⌝ }
+    ensures { λ r. ⌜ r ≡ write-verdict (now (command .entry)) (object-at at (now (store .entry))) room ⌝ }
+{
+    if !write_fits(command, store, at) {
+        return Verdict::Refused(Refusal::BoundaryExceeded);
+    }
+    command::fitting(Length(0), room)
+}
+
+// Whether the counter of a found record is at or past its threshold: its bytes are a part of the store.
+fn exhausted(store: &[u8], at: usize) -> bool
+    requires { ⌜ Stored at (now store) × (is-counter (object-at at (now store) .kind) ≡ true) ⌝ }
+    ensures { λ r. ⌜ r ≡ exhausted (direction (object-at at (now (store .entry)) .kind)) (object-at at (now (store .entry)) .content) ⌝ }
+{
+    let part = record::data_part(store, at, Offset(0), Length(counter::SIZE));
+    counter::exhausted(part, record::direction(store, at))
+}
+
+// Of a count at a found record: 03 where it is no counter, then the steps 11 and 13.
+fn judge_count(command: &[u8], store: &[u8], at: usize, room: usize) -> Verdict
+    requires { ⌜ Stored at (now store) × (8 ≤ length (now command)) ⌝ }
+    ensures { λ r. ⌜ r ≡ count-verdict (now (command .entry)) (object-at at (now (store .entry))) room ⌝ }
+{
+    let front = command::offset(command).0 == 0;
+    if !record::is_counter(store, at) {
+        return Verdict::Refused(Refusal::InvalidParam);
+    }
+    if !front {
+        return Verdict::Refused(Refusal::BoundaryExceeded);
+    }
+    if exhausted(store, at) {
         return Verdict::Refused(Refusal::BoundaryExceeded);
     }
     command::fitting(Length(0), room)
@@ -83,6 +126,7 @@ fn is_life_cycle(kind: Kind) -> bool
 {
     match kind {
         Kind::Data => false,
+        Kind::Counter(_) => false,
         Kind::LifeCycle => true,
         Kind::Status => false,
     }
@@ -107,6 +151,16 @@ fn judge_state(command: &[u8], kind: Kind, byte: u8, room: usize) -> Verdict
     command::fitting(Length(0), room)
 }
 
+// A count of an object of the session: a life cycle is no counter, and another one may not be changed.
+fn judge_session_count(kind: Kind) -> Verdict
+    ensures { λ r. ⌜ r ≡ session-count-verdict kind ⌝ }
+{
+    if is_life_cycle(kind) {
+        return Verdict::Refused(Refusal::InvalidParam);
+    }
+    Verdict::Refused(Refusal::AccessDenied)
+}
+
 // Steps 10 to 13 at an object of the session.
 fn judge_session(asked: Action, command: &[u8], kind: Kind, byte: u8, room: usize) -> Verdict
     requires { ⌜ InFull asked (now command) ⌝ }
@@ -118,6 +172,7 @@ fn judge_session(asked: Action, command: &[u8], kind: Kind, byte: u8, room: usiz
         Action::Write => judge_state(command, kind, byte, room),
         Action::EraseAndWrite => judge_state(command, kind, byte, room),
         Action::SetMetadata => Verdict::Refused(Refusal::AccessDenied),
+        Action::Count => judge_session_count(kind),
     }
 }
 
@@ -153,9 +208,10 @@ fn judge_stored(
     match asked {
         Action::GetData => judge_get(command, record::used_at(store, at), room),
         Action::GetMetadata => command::fitting(answer::answer_length(store, at), room),
-        Action::Write => judge_write(command, record::maximum_at(store, at), room),
-        Action::EraseAndWrite => judge_write(command, record::maximum_at(store, at), room),
+        Action::Write => judge_write(command, store, at, room),
+        Action::EraseAndWrite => judge_write(command, store, at, room),
         Action::SetMetadata => judge_metadata(command, store, at, room),
+        Action::Count => judge_count(command, store, at, room),
     }
 }
 

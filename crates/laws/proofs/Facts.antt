@@ -6,7 +6,8 @@ use mathlib.Core.Path.{_≡_, refl}
 use borrow.Author.Tests.{leb-true, le-leb, ltb-true, lt-ltb, not-true}
 use lib.ListN.{length}
 use Rattle.rules.specs.declared.Kind.{Kind}
-use Rattle.rules.specs.declared.Kind.the-variants.{Data, LifeCycle, Status}
+use Rattle.rules.specs.declared.Kind.the-variants.{Data, Counter, LifeCycle, Status}
+use Rattle.rules.specs.declared.Direction.the-variants.{Up, Down}
 use Rattle.rules.specs.Basic.{all, rising}
 use Rattle.rules.specs.Expression.{slot-size, is-state, expression-allowed-with}
 use Rattle.rules.specs.Object.{Object, used, kind-number, read-kind, of-session, is, data-allowed, in-session, object-allowed-with, object-allowed, all-allowed-with}
@@ -23,6 +24,8 @@ pub record Storable (k : Kind) : Type 0 where
 pub storable : (k : Kind) (maximum : ℕ) (content : List ℕ) → data-allowed k maximum content ≡ true → Storable k
 unfolding data-allowed read-kind kind-number of-session is
 storable Data m b h = record { read-back = refl; not-of-session = refl }
+storable (Counter Up) m b h = record { read-back = refl; not-of-session = refl }
+storable (Counter Down) m b h = record { read-back = refl; not-of-session = refl }
 storable LifeCycle m b h = absurd (false≢true h)
 storable Status m b h = absurd (false≢true h)
 

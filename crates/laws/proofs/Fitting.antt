@@ -1,25 +1,28 @@
 -- What an action stores may stand in the place of the object that it found: it is allowed and as large.
 use Prim.Native.Nat.{ℕ, _+_, _≤_}
-use mathlib.Core.Bool.{Bool, true, false, false≢true}
+use mathlib.Core.Bool.{Bool, true, false, _&&_, false≢true}
 use mathlib.Core.List.{List, [], _∷_}
 use mathlib.Core.Option.{Option, none, some}
-use mathlib.Core.Path.{_≡_, refl, ap, _∙_}
+use mathlib.Core.Path.{_≡_, refl, sym, ap, _∙_}
 use native.Mathlib.Omega.{arith}
 use borrow.Author.Tests.{leb-true, eqb-true, not-false}
-use lib.Dec.{eqb}
-use lib.ListN.{length}
+use lib.Dec.{eqb, leb}
+use lib.ListN.{length, length-drop}
 use Rattle.rules.specs.declared.Kind.{Kind}
-use Rattle.rules.specs.declared.Kind.the-variants.{Data, LifeCycle, Status}
+use Rattle.rules.specs.declared.Kind.the-variants.{Data, Counter, LifeCycle, Status}
+use Rattle.rules.specs.declared.Direction.{Direction}
+use Rattle.rules.specs.declared.Direction.the-variants.{Up, Down}
 use Rattle.rules.specs.declared.Action.{Action}
-use Rattle.rules.specs.declared.Action.the-variants.{GetData, GetMetadata, Write, EraseAndWrite, SetMetadata}
+use Rattle.rules.specs.declared.Action.the-variants.{GetData, GetMetadata, Write, EraseAndWrite, SetMetadata, Count}
 use Rattle.rules.specs.declared.Verdict.the-variants.{Accepted}
-use Rattle.rules.specs.Basic.{if_then_else_, or-else}
-use Rattle.rules.specs.Command.{offset, sent-data, sent-metadata}
+use Rattle.rules.specs.Basic.{if_then_else_, or-else, big-endian-4}
+use Rattle.rules.specs.Command.{offset, sent-data, step-byte, sent-metadata}
 use Rattle.rules.specs.Expression.{Expression, never, expression, expression-allowed, is-state, may-become}
-use Rattle.rules.specs.Object.{Object, of-session, data-allowed, object-allowed, with-content}
+use Rattle.rules.specs.Object.{Object, kind-number, is, of-session, is-counter, direction, counter-size, data-allowed, object-allowed, with-content}
+use Rattle.rules.specs.Counter.{after-count}
 use Rattle.rules.specs.Metadata.{Field, field-allowed, fields-allowed, value-of, sent-state, sent-expression, with-fields, metadata-allowed, sent-fields}
 use Rattle.rules.specs.Access.{Seen, holds, asked, granted}
-use Rattle.rules.specs.Operation.{put-at, writing, operation}
+use Rattle.rules.specs.Operation.{put-at, write-fits, writing, operation}
 use Rattle.laws.proofs.Tests.{if-by, and-left, and-right, at-place}
 use Rattle.laws.proofs.Expressions.{expression-read}
 use Rattle.laws.proofs.Facts.{allowed, allowed-by}
@@ -34,19 +37,52 @@ pub record Fitting (o new : Object) : Type 0 where
 
 -- data ---------------------------------------------------------------------------------------------------------------------
 
--- of the kinds that take any write, any bytes are allowed
-any-bytes : (k : Kind) (m : ℕ) (old b : List ℕ) → data-allowed k m old ≡ true → data-allowed k m b ≡ true
-unfolding data-allowed
-any-bytes Data m old b h = h
-any-bytes LifeCycle m old b h = h
-any-bytes Status m old b h = h
+-- other bytes are allowed: of a counter, as many
+other-bytes : (k : Kind) (m : ℕ) (old b : List ℕ) → data-allowed k m old ≡ true → (is-counter k ≡ true → length b ≡ counter-size) → data-allowed k m b ≡ true
+unfolding data-allowed is-counter is kind-number
+other-bytes Data m old b h l = h
+other-bytes (Counter Up) m old b h l = rw (l refl, and-left (eqb m counter-size) _ h)
+other-bytes (Counter Down) m old b h l = rw (l refl, and-left (eqb m counter-size) _ h)
+other-bytes LifeCycle m old b h l = h
+other-bytes Status m old b h l = h
 
-pub content-fits : (b : List ℕ) (o : Object) → object-allowed o ≡ true → length b ≤ o .maximum → Fitting o (with-content b o)
+pub content-fits : (b : List ℕ) (o : Object) → object-allowed o ≡ true → length b ≤ o .maximum → (is-counter (o .kind) ≡ true → length b ≡ counter-size) →
+    Fitting o (with-content b o)
 unfolding with-content
-content-fits b o h l =
+content-fits b o h l n =
     let a = allowed o h in
-    let content = any-bytes (o .kind) (o .maximum) (o .content) b (a .content) in
+    let content = other-bytes (o .kind) (o .maximum) (o .content) b (a .content) n in
     record { allowed = allowed-by _ (search (a, l, content)); number = refl; maximum = refl }
+
+-- counters ------------------------------------------------------------------------------------------------------------------
+
+-- what a record of a counter must have
+counter-sizes : (k : Kind) (m : ℕ) (b : List ℕ) → data-allowed k m b ≡ true → is-counter k ≡ true → (m ≡ counter-size) × (length b ≡ counter-size)
+unfolding data-allowed is-counter is kind-number
+counter-sizes Data m b h c = absurd (false≢true c)
+counter-sizes (Counter d) m b h c = (eqb-true m counter-size (and-left _ _ h), eqb-true (length b) counter-size (and-right (eqb m counter-size) _ h))
+counter-sizes LifeCycle m b h c = absurd (false≢true h)
+counter-sizes Status m b h c = absurd (false≢true h)
+
+module _ (o : Object) (h : object-allowed o ≡ true) (c : is-counter (o .kind) ≡ true) where
+  pub counter-maximum : o .maximum ≡ counter-size
+  counter-maximum = counter-sizes (o .kind) (o .maximum) (o .content) (allowed o h .content) c .0
+
+  pub counter-content : length (o .content) ≡ counter-size
+  counter-content = counter-sizes (o .kind) (o .maximum) (o .content) (allowed o h .content) c .1
+
+-- a counter is no object of the session
+pub counter-stored : (k : Kind) → is-counter k ≡ true → of-session k ≡ false
+unfolding is-counter of-session is kind-number
+counter-stored Data h = refl
+counter-stored (Counter Up) h = refl
+counter-stored (Counter Down) h = refl
+counter-stored LifeCycle h = absurd (false≢true h)
+counter-stored Status h = absurd (false≢true h)
+
+pub count-length : (d : Direction) (step : ℕ) (b : List ℕ) → length b ≡ counter-size → length (after-count d step b) ≡ counter-size
+unfolding after-count big-endian-4
+count-length d step b h = simp length-drop (omega arith)
 
 -- metadata -------------------------------------------------------------------------------------------------------------------
 
@@ -95,13 +131,28 @@ unfolding holds
 not-never true see lcso e g = absurd (false≢true g)
 not-never false see lcso e g = refl
 
+-- a write that fits: within the maximum, and of a counter all of its bytes
+pub record Within (o : Object) (k n : ℕ) : Type 0 where
+  pub within : k + n ≤ o .maximum
+  pub whole : is-counter (o .kind) ≡ true → (k + n ≡ counter-size) × (o .maximum ≡ counter-size)
+
+pub write-within : (o : Object) (k n : ℕ) → object-allowed o ≡ true → write-fits o k n ≡ true → Within o k n
+unfolding write-fits
+write-within o k n h =
+    let size = counter-maximum o h in
+    if-by (λ t. t ≡ true → Within o k n) (is-counter (o .kind)) (eqb k 0 && eqb n counter-size) (leb (k + n) (o .maximum))
+    (λ q e. let z = eqb-true k 0 (and-left _ _ e) in let w = eqb-true n counter-size (and-right (eqb k 0) _ e) in
+    record { within = omega (arith, size q); whole = λ r. (omega arith, size q) })
+    (λ q e. record { within = leb-true (k + n) (o .maximum) e; whole = λ r. absurd (false≢true (sym q ∙ r)) })
+
 written : (old c : List ℕ) (o : Object) (see : Seen) (new : Object) → object-allowed o ≡ true → length old ≤ o .maximum →
     writing old c o see .verdict ≡ Accepted → writing old c o see .stores ≡ some new → Fitting o new
 unfolding writing
 written old c o see new h l v e =
-    let within = leb-true (offset c + length (sent-data c)) (o .maximum) (not-false _ (passed _ _ _ v .0)) in
-    let fits : length (put-at (offset c) (sent-data c) old) ≤ o .maximum = omega (arith, put-used (offset c) (sent-data c) old) in
-    rw (not-chosen (of-session (o .kind)) _ new e .1) at (content-fits (put-at (offset c) (sent-data c) old) o h fits)
+    let w = write-within o (offset c) (length (sent-data c)) h (not-false _ (passed _ _ _ v .0)) in
+    let long = put-used (offset c) (sent-data c) old in
+    rw (not-chosen (of-session (o .kind)) _ new e .1) at
+    (content-fits (put-at (offset c) (sent-data c) old) o h (omega (arith, w .within)) (λ q. omega (arith, w .whole q)))
 
 -- what an accepted action stores fits
 pub operation-fitting : (a : Action) (c : List ℕ) (o : Object) (see : Seen) (new : Object) → object-allowed o ≡ true →
@@ -115,13 +166,20 @@ operation-fitting SetMetadata c o see new h v e =
     let fs = sent-fields (sent-metadata c) in
     let q : with-fields fs o ≡ new = cc in
     rw q at (fields-fit (o .lcso) o fs h (unfold metadata-allowed in at-place _ (not-false _ (passed _ _ _ v .0)) 3))
+operation-fitting Count c o see new h v e =
+    let b = after-count (direction (o .kind)) (step-byte c) (o .content) in
+    let q : with-content b o ≡ new = cc in
+    let counter : is-counter (o .kind) ≡ true = not-false _ (passed _ _ _ v .0) in
+    let long = count-length (direction (o .kind)) (step-byte c) (o .content) (counter-content o h counter) in
+    rw q at (content-fits b o h (omega (arith, long, counter-maximum o h counter)) (λ r. long))
 
 -- and nothing is stored in the place of an object of the session
 pub operation-outside : (a : Action) (c : List ℕ) (o : Object) (see : Seen) (new : Object) → granted a o see ≡ true →
-    operation a c o see .stores ≡ some new → of-session (o .kind) ≡ false
+    operation a c o see .verdict ≡ Accepted → operation a c o see .stores ≡ some new → of-session (o .kind) ≡ false
 unfolding operation granted asked
-operation-outside GetData c o see new g e = let z : _≡_ {A = ℕ} 0 1 = cc in absurd (omega arith)
-operation-outside GetMetadata c o see new g e = let z : _≡_ {A = ℕ} 0 1 = cc in absurd (omega arith)
-operation-outside Write c o see new g e = not-chosen (of-session (o .kind)) _ new e .0
-operation-outside EraseAndWrite c o see new g e = not-chosen (of-session (o .kind)) _ new e .0
-operation-outside SetMetadata c o see new g e = not-never (of-session (o .kind)) see (o .lcso) (o .change) g
+operation-outside GetData c o see new g v e = let z : _≡_ {A = ℕ} 0 1 = cc in absurd (omega arith)
+operation-outside GetMetadata c o see new g v e = let z : _≡_ {A = ℕ} 0 1 = cc in absurd (omega arith)
+operation-outside Write c o see new g v e = not-chosen (of-session (o .kind)) _ new e .0
+operation-outside EraseAndWrite c o see new g v e = not-chosen (of-session (o .kind)) _ new e .0
+operation-outside SetMetadata c o see new g v e = not-never (of-session (o .kind)) see (o .lcso) (o .change) g
+operation-outside Count c o see new g v e = counter-stored (o .kind) (not-false _ (passed _ _ _ v .0))

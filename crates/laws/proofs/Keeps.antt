@@ -72,7 +72,7 @@ ruling-fits (OnObject a) c os s room new h v e =
     let p = nine-passed a c (named (object-number c) (seen os s)) (seen os s) room v in
     let o = p .object in
     let stores : operation a c o (seen os s) .stores ≡ some new = unfold ruling-on in (rw (p .there) at e) in
-    let there = in-store (object-number c) (seen os s) o (operation-outside a c o (seen os s) new (p .late .granted) stores) (p .there) in
+    let there = in-store (object-number c) (seen os s) o (operation-outside a c o (seen os s) new (p .late .granted) (p .late .own) stores) (p .there) in
     let f = found-there (object-number c) os o h (unfold seen in there) in
     record { object = o; stands = f .stands; fits = operation-fitting a c o (seen os s) new (f .object-ok) (p .late .own) stores }
 ruling-fits OpenApplication c os s room new h v e = let z : _≡_ {A = ℕ} 0 1 = cc in absurd (omega arith)

@@ -45,6 +45,10 @@ put-zeros xs p a n h e =
     let l : length (take n (drop a xs)) ≡ n = simp (length-take, length-drop) (omega arith) in
     rw (e, add-sub-cancel-left a n, l, length-replicate, drop-drop)
 
+-- `put_alone`
+pub put-over : (a : ℕ) (ys xs zs r : List ℕ) → zs ≡ xs → r ≡ over a ys zs → r ≡ over a ys xs
+put-over a ys xs zs r e f = f ∙ ap (over a ys) e
+
 -- bytes over a part -----------------------------------------------------------------------------------------------------
 
 -- what stands between a and c is replaced

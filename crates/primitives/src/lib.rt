@@ -1,10 +1,10 @@
-// Numbers in two bytes, copies and zeros in lent slices, and bools joined.
+// Numbers in two bytes and in four, copies and zeros in lent slices, and bools joined.
 ghost use mathlib.Core.Path.{_≡_};
 ghost use mathlib.Core.List.{_++_};
 ghost use mathlib.Core.Bool.{_&&_, _||_};
 ghost use Prim.Native.Nat.{_+_, _<_, _≤_, min, max};
 ghost use lib.ListN.{length, drop};
-ghost use Rattle.rules.specs.Basic.{little-endian-at, big-endian-at, zeros};
+ghost use Rattle.rules.specs.Basic.{little-endian-at, big-endian-at, big-endian-4, big-endian-4-at, zeros};
 ghost use Rattle.primitives.specs.Bytes.{over, all-zero};
 
 // The number in two bytes, least significant first.
@@ -25,6 +25,16 @@ pub fn big_endian_at(s: &[u8], at: usize) -> u16
     let high = s[at] as u16;
     let low = s[at + 1] as u16;
     256 * high + low
+}
+
+// The number in four bytes, most significant first.
+pub fn big_endian_4_at(s: &[u8], at: usize) -> u32
+    requires { ⌜ at + 3 < length (now s) ⌝ }
+    ensures { λ r. ⌜ r ≡ big-endian-4-at at (now (s .entry)) ⌝ }
+{
+    let high = big_endian_at(s, at) as u32;
+    let low = big_endian_at(s, at + 2) as u32;
+    0x10000 * high + low
 }
 
 pub fn max(a: usize, b: usize) -> usize
@@ -66,6 +76,22 @@ pub fn put(dst: &mut [u8], at: usize, src: &[u8])
     copy_in(&mut dst[at..e], src);
 }
 
+// Puts a number in four bytes, most significant first.
+pub fn put_big_endian_4(dst: &mut [u8], at: usize, n: u32)
+    requires { ⌜ at + 3 < length (now dst) ⌝ }
+    ensures { λ _. ⌜ now (dst .exit) ≡ over at (big-endian-4 n) (now (dst .entry)) ⌝ }
+{
+    let high = n / 0x10000;
+    let low = n % 0x10000;
+    let bytes = [
+        (high / 256) as u8,
+        (high % 256) as u8,
+        (low / 256) as u8,
+        (low % 256) as u8,
+    ];
+    put(dst, at, &bytes);
+}
+
 // Zeros all of dst.
 pub fn clear(dst: &mut [u8])
     ensures { λ _. ⌜ now (dst .exit) ≡ zeros (length (now (dst .entry))) ⌝ }
@@ -84,6 +110,15 @@ pub fn put_zeros(dst: &mut [u8], at: usize, n: usize)
 {
     let e = at + n;
     clear(&mut dst[at..e]);
+}
+
+// Zeros all of dst but src, which is put at a place of it.
+pub fn put_alone(dst: &mut [u8], at: usize, src: &[u8])
+    requires { ⌜ at + length (now src) ≤ length (now dst) ⌝ }
+    ensures { λ _. ⌜ now (dst .exit) ≡ over at (now (src .entry)) (zeros (length (now (dst .entry)))) ⌝ }
+{
+    clear(dst);
+    put(dst, at, src);
 }
 
 pub fn and(a: bool, b: bool) -> bool

@@ -1,9 +1,9 @@
--- The check of one record: its tests say whether the bytes are the record of an allowed object.
+-- The check of one record: its tests say whether the bytes are the record of an allowed object. What the number of a kind says.
 use Prim.Native.Nat.{ℕ, _+_, _*_, _-_, _/_, _%_, _≤_, _<_}
 use mathlib.Core.Path.{_≡_, refl, sym, ap, _∙_}
-use mathlib.Core.Bool.{Bool, true, false, not, _&&_}
+use mathlib.Core.Bool.{Bool, true, false, not, _&&_, _||_}
 use mathlib.Core.List.{List, [], _∷_, _++_, append-nil}
-use borrow.Author.Tests.{eq-eqb, eqb-true, le-leb, leb-true, not-true, not-false}
+use borrow.Author.Tests.{eq-eqb, ne-eqb, eqb-true, le-leb, leb-true, not-true, not-false}
 use native.Mathlib.Omega.{arith}
 use native.Mathlib.Nat.{add-sub-cancel-left}
 use mir.Val
@@ -12,22 +12,25 @@ use lib.Dec.{eqb}
 use lib.ListN.{length, getD, take, drop, length-drop, take-append-drop}
 use lib.Seq.{take-at, drop-append-seam, drop-drop, length-take-le}
 use borrow.Rule.Slice.PartAt.{part-to-end}
+use Rattle.rules.specs.declared.Kind.{Kind}
+use Rattle.rules.specs.declared.Kind.the-variants.{Counter}
+use Rattle.rules.specs.declared.Direction.the-variants.{Up, Down}
 use Rattle.rules.specs.declared.Slot.{Slot}
 use Rattle.rules.specs.declared.Slot.the-variants.{Change, Read, Execute}
 use Rattle.rules.specs.Basic.{all, zeros, little-endian-at}
 use Rattle.rules.specs.Expression.{Expression, expression-allowed, is-state}
-use Rattle.rules.specs.Object.{Object, used, kind-number, read-kind, data-allowed, in-session, object-allowed}
+use Rattle.rules.specs.Object.{Object, used, kind-number, read-kind, is, is-counter, direction, data-allowed, in-session, object-allowed}
 use Rattle.rules.specs.Layout.{slot-size, slots-at, head-size, slot-at, slot, record-bytes, read-slot, read-record}
 use Rattle.rules.specs.Layout.{read-record-with, record-bytes-with, slot-at-with}
 use Rattle.laws.proofs.Facts.{allowed, allowed-by}
 use Rattle.laws.proofs.Tests.{and-left, and-right, at-place, same-refl, same-eq}
-use Rattle.laws.proofs.Inverse.{slot-length, slot-read, record-length, record-read, two-bytes}
+use Rattle.laws.proofs.Inverse.{slot-length, slot-read, record-length, record-read}
 use Rattle.primitives.specs.Bytes.{all-zero}
 use Rattle.primitives.proofs.Zeros.{zeros-are, are-zeros}
 use Rattle.expression.proofs.Tests.{same-test, calls}
 use Rattle.expression.proofs.Conditions.{two}
 use Rattle.record.specs.Records.{is-slot, part, head-allowed, kind-allowed, slots-allowed, body-allowed, is-record}
-use Rattle.record.proofs.Standing.{Slotted, size-here, used-here, slot-here, data-here}
+use Rattle.record.proofs.Standing.{Slotted, size-here, kind-here, used-here, slot-here, data-here}
 
 -- every entry is a byte
 abbrev pub Bytes : List ℕ → Type 0
@@ -156,9 +159,7 @@ module _ (b : List ℕ) (ok : object-allowed (read-record b) ≡ true) (q : reco
   unfolding body-allowed kind-allowed slots-allowed slot-at-with all
   body-passes =
       let n = little-endian-at 2 b in
-      let told : little-endian-at 2 (record-bytes o) ≡ kind-number (read-kind n) =
-      unfold little-endian-at record-bytes-with read-record-with in two-bytes (kind-number (o .kind)) in
-      let kind : kind-number (read-kind n) ≡ n = sym told ∙ ap (little-endian-at 2) q in
+      let kind : kind-number (read-kind n) ≡ n = unfold read-record-with in sym (kind-here 0 b o [] ok alone) in
       let content : data-allowed (read-kind n) (little-endian-at 6 b) (take (little-endian-at 8 b) (drop head-size b)) ≡ true =
       unfold read-record-with in allowed o ok .content in
       let slotted : (w : Slot) → is-slot (take slot-size (drop (0 + slot-at w) b)) ≡ true = λ w. slot-passes _ b _ (slot-here 0 b o [] ok alone w) in
@@ -211,3 +212,35 @@ pub kind-by : (s : List ℕ) (r : Bool) (k m u : ℕ) → r ≡ kind-allowed k m
     k ≡ little-endian-at 2 s → m ≡ little-endian-at 6 s → u ≡ little-endian-at 8 s →
     r ≡ kind-allowed (little-endian-at 2 s) (little-endian-at 6 s) (part s head-size (head-size + little-endian-at 8 s))
 kind-by s r k m u f ek em eu = f ∙ (λ i. kind-allowed (ek i) (em i) (part s head-size (head-size + eu i)))
+
+-- kinds ------------------------------------------------------------------------------------------------------------------
+
+-- `kind_ok`: a number that is read as this kind
+pub read-as : (k : Kind) (n m : ℕ) (b : List ℕ) (r : Bool) → k ≡ read-kind n → r ≡ (eqb (kind-number k) n && data-allowed k m b) → r ≡ kind-allowed n m b
+unfolding kind-allowed
+read-as k n m b r e f = rw (← e) f
+
+-- and one of no kind
+pub read-none : (n m : ℕ) (b : List ℕ) → (n ≡ 1 → ⊥) → (n ≡ 2 → ⊥) → (n ≡ 4 → ⊥) → false ≡ kind-allowed n m b
+unfolding kind-allowed read-kind kind-number
+read-none n m b d u w = rw (ne-eqb n 1 d, ne-eqb n 2 u, ne-eqb 4 n (λ e. w (sym e)))
+
+-- `is_counter`, `direction`: by the number of the kind
+module _ (k : Kind) (n : ℕ) (e : n ≡ kind-number k) where
+  is-by : (l : Kind) → is l k ≡ eqb n (kind-number l)
+  unfolding is
+  is-by l =
+      same-test (eqb (kind-number l) (kind-number k)) (eqb n (kind-number l)) (λ h. eq-eqb n (kind-number l) (e ∙ sym (eqb-true (kind-number l) (kind-number k) h)))
+      (λ h. eq-eqb (kind-number l) (kind-number k) (sym (eqb-true n (kind-number l) h) ∙ e))
+
+  pub counter-by : (r : Bool) → r ≡ (eqb n 2 || eqb n 4) → r ≡ is-counter k
+  unfolding is-counter kind-number
+  counter-by r f = rw (is-by (Counter Up), is-by (Counter Down)) f
+
+  pub down-by : n ≡ 4 → Down ≡ direction k
+  unfolding direction kind-number
+  down-by h = rw (is-by (Counter Down), eq-eqb n 4 h)
+
+  pub up-by : (n ≡ 4 → ⊥) → Up ≡ direction k
+  unfolding direction kind-number
+  up-by h = rw (is-by (Counter Down), ne-eqb n 4 h)

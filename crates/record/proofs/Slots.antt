@@ -1,9 +1,9 @@
 -- One slot: the tests of its check say whether the bytes are the slot of an allowed expression, and what is put is a slot.
-use Prim.Native.Nat.{ℕ, _+_, _-_, _≤_, _<_}
+use Prim.Native.Nat.{ℕ, zero, suc, _+_, _-_, _≤_, _<_}
 use mathlib.Core.Path.{_≡_, refl, sym, ap, _∙_}
-use mathlib.Core.Bool.{Bool, true, false, _&&_}
+use mathlib.Core.Bool.{Bool, true, false, not, _&&_}
 use mathlib.Core.List.{List, [], _∷_, _++_}
-use borrow.Author.Tests.{le-leb, lt-leb, leb-true}
+use borrow.Author.Tests.{le-leb, lt-leb, leb-true, not-true, not-false}
 use native.Mathlib.Omega.{arith}
 use native.Mathlib.Numerals.{add-one}
 use borrow.Rule.Slice.PartAt.{part-to-end}
@@ -23,7 +23,7 @@ use Rattle.expression.proofs.Tests.{same-test}
 use Rattle.expression.proofs.Conditions.{two, four}
 use Rattle.expression.proofs.Forms.{well-formed-three}
 pub use Rattle.expression.proofs.Forms.{read-allowed}
-use Rattle.record.specs.Records.{filled, is-slot, part}
+use Rattle.record.specs.Records.{filled, is-slot, part, slots-from}
 
 module _ (n : ℕ) (t : List ℕ) (l : length t ≡ slot-size - 1) where
   slot-tests : Bool
@@ -88,3 +88,18 @@ put-by r q0 q1 xs v at h l e0 e1 e2 =
     let n : length (zeros (slot-size - 1 - length v)) ≡ slot-size - 1 - length v = length-replicate (slot-size - 1 - length v) 0 in
     rw (e2, e1, e0, over-over at (at + 1) (length v ∷ []) v xs refl (omega arith))
     (over-over at (at + 1 + length v) (length v ∷ v) _ xs (omega arith) (omega arith))
+
+-- the loop over the slots: n of them are left, from k on
+module _ (w : Bool) (b : List ℕ) (k : ℕ) where
+  module _ (q : Bool) (e : q ≡ is-slot (part b k (k + slot-size))) where
+    pub slots-stop : (n : ℕ) → w ≡ slots-from n k b → 0 < n → not q ≡ true → false ≡ w
+    slots-stop zero inv h f = absurd (omega arith)
+    slots-stop (suc n) inv h f = rw (inv, ← e, not-true q f)
+
+    pub slots-on : (n : ℕ) → w ≡ slots-from n k b → 0 < n → not q ≡ false → w ≡ slots-from (n - 1) (k + slot-size) b
+    slots-on zero inv h f = absurd (omega arith)
+    slots-on (suc n) inv h f = let one : suc n - 1 ≡ n = omega arith in rw (one, inv, ← e, not-false q f)
+
+  pub slots-end : (n : ℕ) → w ≡ slots-from n k b → n ≤ 0 → true ≡ w
+  slots-end zero inv h = sym inv
+  slots-end (suc n) inv h = absurd (omega arith)

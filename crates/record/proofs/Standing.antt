@@ -11,7 +11,7 @@ use Rattle.rules.specs.declared.Slot.{Slot}
 use Rattle.rules.specs.declared.Slot.the-variants.{Change, Read, Execute}
 use Rattle.rules.specs.Basic.{same, zeros, little-endian-at}
 use Rattle.rules.specs.Expression.{Expression, expression-bytes, expression-allowed}
-use Rattle.rules.specs.Object.{Object, used, of-session, object-allowed, expression-in}
+use Rattle.rules.specs.Object.{Object, used, kind-number, of-session, object-allowed, expression-in}
 use Rattle.rules.specs.Layout.{slot-size, slots-at, head-size, slot-at, record-size, slot, record-bytes, read-record}
 use Rattle.rules.specs.Layout.{read-record-with, record-bytes-with, slot-at-with, slot-of-with}
 use Rattle.laws.proofs.Facts.{storable, allowed}
@@ -56,6 +56,9 @@ module _ (p : ℕ) (b : List ℕ) (o : Object) (r : List ℕ) (h : object-allowe
 
   pub size-here : little-endian-at p b ≡ record-size o
   size-here = rw add-zero at (two-here 0 (record-size o) (unfold little-endian-at record-bytes-with in two-bytes (record-size o)))
+
+  pub kind-here : little-endian-at (p + 2) b ≡ kind-number (o .kind)
+  kind-here = two-here 2 (kind-number (o .kind)) (unfold little-endian-at record-bytes-with in two-bytes (kind-number (o .kind)))
 
   pub used-here : little-endian-at (p + 8) b ≡ used o
   used-here = two-here 8 (used o) (unfold little-endian-at record-bytes-with in two-bytes (used o))
@@ -148,9 +151,10 @@ stored-facts p b h =
     let number : little-endian-at (p + 4) b ≡ o .number = unfold object-at read-record-with in sym (low-drop p 4 b) in
     let maximum : little-endian-at (p + 6) b ≡ o .maximum = unfold object-at read-record-with in sym (low-drop p 6 b) in
     let state : getD b (p + 10) 0 ≡ o .lcso = unfold object-at read-record-with in sym (getD-drop p b 10 0) in
+    let kind = kind-here p b o _ (s .allowed) (s .here) in
     let counted = used-here p b o _ (s .allowed) (s .here) in
     let small : (w : Slot) → getD b (p + slot-at w) 0 ≤ slot-size - 1 = λ w. slot-small _ b _ (slot-here p b o _ (s .allowed) (s .here) w) in
-    search (h, s, a, number, maximum, state, counted, small Change, small Read, small Execute)
+    search (h, s, a, kind, number, maximum, state, counted, small Change, small Read, small Execute)
 
 -- the kind of what is stored is none of the session's
 pub stored-kind : (p : ℕ) (b : List ℕ) → Stored p b → of-session (object-at p b .kind) ≡ false

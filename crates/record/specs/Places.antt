@@ -5,7 +5,7 @@ use mathlib.Core.Bool.{Bool, true, _&&_}
 use mathlib.Core.List.{List}
 use lib.ListN.{length, getD, take, drop}
 use Rattle.rules.specs.Basic.{same, little-endian-at}
-use Rattle.rules.specs.Object.{Object, used, object-allowed}
+use Rattle.rules.specs.Object.{Object, used, kind-number, object-allowed}
 use Rattle.rules.specs.Layout.{slot-size, slots-at, record-size, record-bytes, read-record}
 use Rattle.primitives.specs.Bytes.{over}
 
@@ -24,6 +24,7 @@ pub record Stored (p : ℕ) (b : List ℕ) : Type 0 where
   pub some-room : 1 ≤ object-at p b .maximum
   pub most : object-at p b .maximum ≤ 1500
   pub used-fits : used (object-at p b) ≤ object-at p b .maximum
+  pub kind-is : little-endian-at (p + 2) b ≡ kind-number (object-at p b .kind)
   pub number-is : little-endian-at (p + 4) b ≡ object-at p b .number
   pub maximum-is : little-endian-at (p + 6) b ≡ object-at p b .maximum
   pub used-is : little-endian-at (p + 8) b ≡ used (object-at p b)

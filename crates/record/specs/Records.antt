@@ -1,6 +1,6 @@
 -- Words for the contracts about one record's bytes, made of the rules' words.
-use Prim.Native.Nat.{ℕ, _+_, _*_, _-_}
-use mathlib.Core.Bool.{Bool, not, _&&_}
+use Prim.Native.Nat.{ℕ, zero, suc, _+_, _*_, _-_}
+use mathlib.Core.Bool.{Bool, true, not, _&&_}
 use mathlib.Core.List.{List, [], _∷_}
 use lib.Dec.{eqb, leb}
 use lib.ListN.{length, getD, take, drop}
@@ -47,6 +47,11 @@ slots-allowed b =
     (is-slot (part b slots-at (slots-at + slot-size)) ∷
     is-slot (part b (slots-at + slot-size) (slots-at + 2 * slot-size)) ∷
     is-slot (part b (slots-at + 2 * slot-size) head-size) ∷ [])
+
+-- n slots, one after another, from k on
+abbrev pub slots-from : ℕ → ℕ → List ℕ → Bool
+slots-from zero k b = true
+slots-from (suc n) k b = is-slot (part b k (k + slot-size)) && slots-from n (k + slot-size) b
 
 -- what the others must say
 unfoldable pub body-allowed : List ℕ → Bool

@@ -1,15 +1,18 @@
 // One record: where its parts lie, its check, its parts read and written where it stands in the store.
+use rules::Direction;
 use rules::Length;
 use rules::ObjectNumber;
 use rules::Offset;
 use rules::Slot;
 ghost use mathlib.Core.Path.{_≡_};
+ghost use mathlib.Core.Bool.{_&&_};
 ghost use Prim.Native.Nat.{_+_, _≤_, _<_};
+ghost use lib.Dec.{eqb};
 ghost use lib.ListN.{length, getD, take, drop};
 ghost use Rattle.rules.specs.declared.Kind.the-variants.{Data};
 ghost use Rattle.rules.specs.Basic.{little-endian-at, little-endian};
 ghost use Rattle.rules.specs.Expression.{expression-bytes};
-ghost use Rattle.rules.specs.Object.{used, in-session, expression-in};
+ghost use Rattle.rules.specs.Object.{used, kind-number, is-counter, direction, counter-size, in-session, expression-in};
 ghost use Rattle.rules.specs.Layout.{slot-size, head-size, slot-at, slot-of};
 ghost use Rattle.primitives.specs.Bytes.{over};
 ghost use Rattle.record.specs.Places.{object-at, Stored};
@@ -32,6 +35,8 @@ pub const CHANGE: usize = 12;
 
 const SLOT: usize = expression::LONGEST + 1;
 
+const SLOTS: usize = 3;
+
 pub const READ: usize = CHANGE + SLOT;
 
 pub const EXECUTE: usize = READ + SLOT;
@@ -43,8 +48,12 @@ pub const SHORTEST: usize = DATA + 1;
 
 const LARGEST: u16 = 1500;
 
-// The kind of a record.
+// The numbers of the kinds: data, and counters that count up and down.
 const DATA_KIND: u16 = 1;
+
+const UP_KIND: u16 = 2;
+
+const DOWN_KIND: u16 = 4;
 
 // Whether a slot holds an expression of n bytes, with zeros behind.
 fn filled(part: &[u8], n: usize) -> bool
@@ -139,28 +148,48 @@ fn head_ok(part: &[u8]) -> bool
     part[ZERO] == 0
 }
 
-// Whether the number is that of a kind of record which may have such data: any bytes, for data.
+// Whether maximum and used are those of a counter.
+fn counter_sizes(maximum: Length, content: &[u8]) -> bool
+    ensures { λ r. ⌜ r ≡ (eqb (maximum .0) counter-size && eqb (length (now (content .entry))) counter-size) ⌝ }
+{
+    if maximum.0 != counter::SIZE {
+        return false;
+    }
+    content.len() == counter::SIZE
+}
+
+// Whether the number is that of a kind of record which may have such data: any bytes for data, those of a counter for a counter.
 fn kind_ok(kind: u16, maximum: Length, content: &[u8]) -> bool
     ensures { λ r. ⌜ r ≡ kind-allowed kind (maximum .0) (now (content .entry)) ⌝ }
 {
     if kind == DATA_KIND {
         return true;
     }
+    if kind == UP_KIND {
+        return counter_sizes(maximum, content);
+    }
+    if kind == DOWN_KIND {
+        return counter_sizes(maximum, content);
+    }
     false
 }
 
-// Whether the slots are slots.
+// Whether the slots are slots: a loop, so that the check of a slot has one place.
 fn slots_ok(part: &[u8]) -> bool
     requires { ⌜ head-size + 1 ≤ length (now part) ⌝ }
     ensures { λ r. ⌜ r ≡ slots-allowed (now (part .entry)) ⌝ }
 {
-    if !slot_ok(&part[CHANGE..READ]) {
-        return false;
+    let mut at: usize = CHANGE;
+    let mut left: usize = SLOTS;
+    while 0 < left {
+        let e = at + SLOT;
+        if !slot_ok(&part[at..e]) {
+            return false;
+        }
+        at = e;
+        left -= 1;
     }
-    if !slot_ok(&part[READ..EXECUTE]) {
-        return false;
-    }
-    slot_ok(&part[EXECUTE..DATA])
+    true
 }
 
 // Whether the kind may have this data, the slots are slots, and all bytes past those in use are zero.
@@ -204,6 +233,34 @@ pub fn number_at(store: &[u8], at: usize) -> ObjectNumber
     ensures { λ r. ⌜ r .0 ≡ object-at at (now (store .entry)) .number ⌝ }
 {
     ObjectNumber(primitives::little_endian_at(store, at + NUMBER))
+}
+
+// The number of its kind.
+fn kind_at(store: &[u8], at: usize) -> u16
+    requires { ⌜ Stored at (now store) ⌝ }
+    ensures { λ r. ⌜ r ≡ kind-number (object-at at (now (store .entry)) .kind) ⌝ }
+{
+    primitives::little_endian_at(store, at + KIND)
+}
+
+// Whether the object is a counter.
+pub fn is_counter(store: &[u8], at: usize) -> bool
+    requires { ⌜ Stored at (now store) ⌝ }
+    ensures { λ r. ⌜ r ≡ is-counter (object-at at (now (store .entry)) .kind) ⌝ }
+{
+    let kind = kind_at(store, at);
+    primitives::or(kind == UP_KIND, kind == DOWN_KIND)
+}
+
+// The way that a counter counts.
+pub fn direction(store: &[u8], at: usize) -> Direction
+    requires { ⌜ Stored at (now store) ⌝ }
+    ensures { λ r. ⌜ r ≡ direction (object-at at (now (store .entry)) .kind) ⌝ }
+{
+    if kind_at(store, at) == DOWN_KIND {
+        return Direction::Down;
+    }
+    Direction::Up
 }
 
 // The maximum of that object.

@@ -6,7 +6,7 @@ use mathlib.Core.Option.{Option}
 use lib.Dec.{eqb, ltb}
 use Rattle.rules.specs.declared.Session.{Session}
 use Rattle.rules.specs.declared.Action.{Action}
-use Rattle.rules.specs.declared.Action.the-variants.{GetData, GetMetadata, Write, EraseAndWrite, SetMetadata}
+use Rattle.rules.specs.declared.Action.the-variants.{GetData, GetMetadata, Write, EraseAndWrite, SetMetadata, Count}
 use Rattle.rules.specs.Basic.{if_then_else_, first-of, or-else}
 use Rattle.rules.specs.Expression.{Condition, Group, just, _and_, Groups, only, _or_, Expression, always, never, when}
 use Rattle.rules.specs.Object.{Object, of-session}
@@ -72,6 +72,7 @@ asked GetMetadata o = if of-session (o .kind) then never else always
 asked Write o = o .change
 asked EraseAndWrite o = o .change
 asked SetMetadata o = if of-session (o .kind) then never else o .change
+asked Count o = o .change
 
 -- access is granted
 unfoldable pub granted : Action → Object → Seen → Bool

@@ -1,4 +1,4 @@
--- Words shared by all: a choice, tests on lists of numbers, numbers in two bytes.
+-- Words shared by all: a choice, tests on lists of numbers, numbers in two bytes and in four.
 -- Tests on numbers are lib.Dec's: eqb a b (equal), ltb a b (a below b), leb a b (a at most b).
 use Prim.Native.Nat.{ℕ, _+_, _*_, _/_, _%_}
 use mathlib.Core.Bool.{Bool, true, false, _&&_, _||_}
@@ -60,6 +60,13 @@ little-endian-at k b = getD b k 0 + 256 * getD b (k + 1) 0
 
 abbrev pub big-endian-at : ℕ → List ℕ → ℕ
 big-endian-at k b = 256 * getD b k 0 + getD b (k + 1) 0
+
+-- a number in four bytes, most significant first, and the number in the four bytes at k
+unfoldable pub big-endian-4 : ℕ → List ℕ
+big-endian-4 n = big-endian (n / 0x10000) ++ big-endian (n % 0x10000)
+
+unfoldable pub big-endian-4-at : ℕ → List ℕ → ℕ
+big-endian-4-at k b = 0x10000 * big-endian-at k b + big-endian-at (k + 2) b
 
 abbrev pub is-none : {A : Type 0} → Option A → Bool
 is-none none = true

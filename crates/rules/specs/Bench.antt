@@ -1,4 +1,4 @@
--- The bench sheet: P1 to P12 as one table, its other lines, and the six slips; then lists of commands.
+-- The bench sheet: P1 to P12 as one table, its other lines, and the six slips; then lists of commands, and counters.
 use Prim.Native.Nat.{ℕ}
 use mathlib.Core.Bool.{true, false}
 use mathlib.Core.List.{List, [], _∷_, _++_}
@@ -7,7 +7,7 @@ use Rattle.rules.specs.Hex.{hex, ascii}
 use Rattle.rules.specs.Factory.{factory-store, fresh-session}
 use Rattle.rules.specs.Cases.{session, opened, closed, _gives_, _refused_leaving_, done-empty, turn, told}
 use Rattle.rules.specs.Cases.{Case, talk, judge, begins, reads-writes, runs, prints}
-use Rattle.rules.specs.Stores.{by-hand, second-record, third-record, three}
+use Rattle.rules.specs.Stores.{by-hand, second-record, third-record, three, up-counter, down-counter}
 
 unfoldable pub open-command : List ℕ
 open-command = hex "70 00 00 10 D2 76 00 00 04 47 65 6E 41 75 74 68 41 70 70 6C"
@@ -166,3 +166,37 @@ run-cases =
     three (opened 0x0C) ∷
     -- an empty list
     runs three (closed 0x05) [] [] three (closed 0x05) ∷ []
+
+-- counters: up to the threshold, onto it, at it, past it by less than a step; then all of it mirrored; and no wrapping at either end
+unfoldable pub counter-cases : List Case
+counter-cases =
+    talk (up-counter 0x20 (hex "00 00 00 00 00 00 01 2C")) (opened 0x00)
+    (hex "02 02 00 05 E1 20 00 00 FF" gives done-empty ∷
+    hex "01 00 00 06 E1 20 00 00 00 08" gives hex "00 00 00 08 00 00 00 FF 00 00 01 2C" ∷
+    hex "02 02 00 05 E1 20 00 00 2D" gives done-empty ∷
+    hex "01 00 00 06 E1 20 00 00 00 08" gives hex "00 00 00 08 00 00 01 2C 00 00 01 2C" ∷
+    hex "02 02 00 05 E1 20 00 00 01" refused 0x08 leaving 0x08 ∷
+    hex "02 02 00 05 E1 20 00 00 00" refused 0x08 leaving 0x08 ∷ [])
+    (opened 0x08) ∷
+    talk (up-counter 0x20 (hex "00 00 00 FA 00 00 01 2C")) (opened 0x00)
+    (hex "02 02 00 05 E1 20 00 00 FF" gives done-empty ∷
+    hex "01 00 00 06 E1 20 00 00 00 08" gives hex "00 00 00 08 00 00 01 2C 00 00 01 2C" ∷ [])
+    (opened 0x00) ∷
+    talk (down-counter 0x20 (hex "00 00 02 58 00 00 01 2C")) (opened 0x00)
+    (hex "02 02 00 05 E1 20 00 00 FF" gives done-empty ∷
+    hex "01 00 00 06 E1 20 00 00 00 08" gives hex "00 00 00 08 00 00 01 59 00 00 01 2C" ∷
+    hex "02 02 00 05 E1 20 00 00 2D" gives done-empty ∷
+    hex "01 00 00 06 E1 20 00 00 00 08" gives hex "00 00 00 08 00 00 01 2C 00 00 01 2C" ∷
+    hex "02 02 00 05 E1 20 00 00 01" refused 0x08 leaving 0x08 ∷
+    hex "02 02 00 05 E1 20 00 00 00" refused 0x08 leaving 0x08 ∷ [])
+    (opened 0x08) ∷
+    talk (down-counter 0x20 (hex "00 00 01 36 00 00 01 2C")) (opened 0x00)
+    (hex "02 02 00 05 E1 20 00 00 FF" gives done-empty ∷
+    hex "01 00 00 06 E1 20 00 00 00 08" gives hex "00 00 00 08 00 00 01 2C 00 00 01 2C" ∷ [])
+    (opened 0x00) ∷
+    talk (up-counter 0x20 (hex "FF FF FF FE FF FF FF FF") ++ down-counter 0x21 (hex "00 00 00 01 00 00 00 00")) (opened 0x00)
+    (hex "02 02 00 05 E1 20 00 00 FF" gives done-empty ∷
+    hex "01 00 00 06 E1 20 00 00 00 04" gives hex "00 00 00 04 FF FF FF FF" ∷
+    hex "02 02 00 05 E1 21 00 00 FF" gives done-empty ∷
+    hex "01 00 00 06 E1 21 00 00 00 04" gives hex "00 00 00 04 00 00 00 00" ∷ [])
+    (opened 0x00) ∷ []

@@ -5,7 +5,7 @@ use mathlib.Core.List.{List, [], _∷_, _++_}
 use mathlib.Core.Option.{Option, none, some}
 use lib.Dec.{eqb, leb}
 use lib.ListN.{length, getD, drop}
-use Rattle.rules.specs.declared.Action.the-variants.{GetData, GetMetadata, Write, EraseAndWrite, SetMetadata}
+use Rattle.rules.specs.declared.Action.the-variants.{GetData, GetMetadata, Write, EraseAndWrite, SetMetadata, Count}
 use Rattle.rules.specs.declared.Sizes.{Sizes}
 use Rattle.rules.specs.declared.Row.{Row}
 use Rattle.rules.specs.declared.Row.the-variants.{OnObject, OpenApplication, CloseApplication, Unknown}
@@ -78,6 +78,8 @@ command-table =
     table-line 0x02 0x40 (at-least 5) anything (OnObject EraseAndWrite) ∷
     -- set metadata: object 2, then 20, L, L bytes: at least 4; a wrong 20 or L waits for step 12
     table-line 0x02 0x01 (at-least 4) anything (OnObject SetMetadata) ∷
+    -- count: object 2, offset 2, one step byte
+    table-line 0x02 0x02 (exactly 5) anything (OnObject Count) ∷
     -- open: D2 76 00 00 04, then "GenAuthAppl" in ASCII (16 bytes)
     table-line 0x70 0x00 (exactly 16) (same identifier) OpenApplication ∷
     -- close: nothing
@@ -119,7 +121,7 @@ object-number c = big-endian-at 4 c
 unfoldable pub object-of : List ℕ → Option ℕ
 object-of c = if leb 6 (length c) then some (object-number c) else none
 
--- get data and write
+-- get data, write and count
 unfoldable pub offset : List ℕ → ℕ
 offset c = big-endian-at 6 c
 
@@ -130,6 +132,10 @@ asked-length c = big-endian-at 8 c
 -- write
 unfoldable pub sent-data : List ℕ → List ℕ
 sent-data c = drop 8 c
+
+-- count
+unfoldable pub step-byte : List ℕ → ℕ
+step-byte c = getD c 8 0
 
 -- set metadata: 20, L, L bytes
 unfoldable pub sent-metadata : List ℕ → List ℕ

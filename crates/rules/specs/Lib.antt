@@ -1,4 +1,4 @@
--- The rules of document 01, as definitions that antt computes, in reading order.
+-- The rules of document 01, and of counters, as definitions that antt computes, in reading order.
 pub mod Basic
 pub mod Hex
 -- Command and response bytes
@@ -9,6 +9,7 @@ pub mod Expression
 -- What an object holds on the controller
 pub mod Object
 pub mod Layout
+pub mod Counter
 pub mod Factory
 pub mod Session
 pub mod Access

@@ -5,10 +5,12 @@ use mathlib.Core.List.{List, [], _∷_}
 use lib.Dec.{eqb, ltb, leb}
 use lib.ListN.{length}
 use Rattle.rules.specs.declared.Kind.{Kind}
-use Rattle.rules.specs.declared.Kind.the-variants.{Data, LifeCycle, Status}
+use Rattle.rules.specs.declared.Kind.the-variants.{Data, Counter, LifeCycle, Status}
+use Rattle.rules.specs.declared.Direction.{Direction}
+use Rattle.rules.specs.declared.Direction.the-variants.{Up, Down}
 use Rattle.rules.specs.declared.Slot.{Slot}
 use Rattle.rules.specs.declared.Slot.the-variants.{Change, Read, Execute}
-use Rattle.rules.specs.Basic.{all, among}
+use Rattle.rules.specs.Basic.{if_then_else_, all, among}
 use Rattle.rules.specs.Expression.{Expression, slot-size, expression-allowed-with, is-state}
 
 -- kinds -------------------------------------------------------------------------------------------------------------
@@ -16,12 +18,17 @@ use Rattle.rules.specs.Expression.{Expression, slot-size, expression-all
 -- the number of each kind, in the records of that kind; those of the session stand in no record, and their numbers are past two bytes
 unfoldable pub kind-number : Kind → ℕ
 kind-number Data = 0x0001
+kind-number (Counter Up) = 0x0002
+kind-number (Counter Down) = 0x0004
 kind-number LifeCycle = 0x10001
 kind-number Status = 0x10002
 
 -- the only kind that a record of this number can be; what is not its number is caught by `unpack`
 unfoldable pub read-kind : ℕ → Kind
-read-kind n = Data
+read-kind n =
+    if eqb n 0x0001 then Data else
+    if eqb n 0x0002 then Counter Up else
+    Counter Down
 
 -- one kind is the other
 unfoldable pub is : Kind → Kind → Bool
@@ -31,10 +38,23 @@ is k l = eqb (kind-number k) (kind-number l)
 unfoldable pub of-session : Kind → Bool
 of-session k = is LifeCycle k || is Status k
 
+unfoldable pub is-counter : Kind → Bool
+is-counter k = is (Counter Up) k || is (Counter Down) k
+
+-- the way that a counter counts
+unfoldable pub direction : Kind → Direction
+direction k = if is (Counter Down) k then Down else Up
+
+-- the bytes of a counter: value 4, threshold 4
+abbrev pub counter-size : ℕ
+counter-size = 8
+
 -- what the data of a record of each kind must be, with its maximum, beside used at most maximum
 unfoldable pub data-allowed : Kind → ℕ → List ℕ → Bool
 -- any bytes
 data-allowed Data maximum content = true
+-- maximum and used always 8
+data-allowed (Counter d) maximum content = eqb maximum counter-size && eqb (length content) counter-size
 -- not in a store
 data-allowed LifeCycle maximum content = false
 data-allowed Status maximum content = false

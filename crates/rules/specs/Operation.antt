@@ -1,4 +1,4 @@
--- Reading and writing: what each action refuses of an object beyond access, answers and changes.
+-- Reading, writing and counting: what each action refuses of an object beyond access, answers and changes.
 use Prim.Native.Nat.{ℕ, _+_, _-_}
 use mathlib.Core.Bool.{Bool, not, _&&_, _||_}
 use mathlib.Core.List.{List, [], _++_}
@@ -8,14 +8,15 @@ use lib.ListN.{length, getD, take, drop}
 use Rattle.rules.specs.declared.Session.{Session}
 use Rattle.rules.specs.declared.Kind.the-variants.{LifeCycle}
 use Rattle.rules.specs.declared.Action.{Action}
-use Rattle.rules.specs.declared.Action.the-variants.{GetData, GetMetadata, Write, EraseAndWrite, SetMetadata}
-use Rattle.rules.specs.declared.Refusal.the-variants.{InvalidData, BoundaryExceeded}
+use Rattle.rules.specs.declared.Action.the-variants.{GetData, GetMetadata, Write, EraseAndWrite, SetMetadata, Count}
+use Rattle.rules.specs.declared.Refusal.the-variants.{InvalidParam, InvalidData, BoundaryExceeded}
 use Rattle.rules.specs.declared.Verdict.{Verdict}
 use Rattle.rules.specs.declared.Verdict.the-variants.{Accepted}
 use Rattle.rules.specs.Basic.{if_then_else_, zeros}
-use Rattle.rules.specs.Command.{offset, asked-length, sent-data, sent-metadata}
+use Rattle.rules.specs.Command.{offset, asked-length, sent-data, step-byte, sent-metadata}
 use Rattle.rules.specs.Expression.{may-become}
-use Rattle.rules.specs.Object.{Object, used, with-content, is, of-session}
+use Rattle.rules.specs.Object.{Object, used, with-content, is, of-session, is-counter, direction, counter-size}
+use Rattle.rules.specs.Counter.{exhausted, after-count}
 use Rattle.rules.specs.Metadata.{metadata, metadata-allowed, sent-fields, with-fields}
 use Rattle.rules.specs.Session.{with-error, with-state}
 use Rattle.rules.specs.Access.{Seen}
@@ -50,6 +51,10 @@ getting-metadata o see = record { verdict = Accepted; answer = metadata o; store
 unfoldable pub put-at : ℕ → List ℕ → List ℕ → List ℕ
 put-at k b old = take k (old ++ zeros (k - length old)) ++ b ++ drop (k + length b) old
 
+-- a write fits: offset + length is not above maximum; to a counter, all 8 bytes at offset 0
+unfoldable pub write-fits : Object → ℕ → ℕ → Bool
+write-fits o k n = if is-counter (o .kind) then eqb k 0 && eqb n counter-size else leb (k + n) (o .maximum)
+
 -- a life cycle takes one of the four states, not below the present one; other objects take any bytes
 unfoldable pub value-allowed : Object → ℕ → Bool
 value-allowed o state = not (is LifeCycle (o .kind)) || may-become (o .lcso) state
@@ -60,7 +65,7 @@ writing old c o see =
     let state = getD (sent-data c) 0 0 in
     record {
       verdict =
-          not (leb (offset c + length (sent-data c)) (o .maximum)) refused BoundaryExceeded or  -- 11: 08
+          not (write-fits o (offset c) (length (sent-data c))) refused BoundaryExceeded or  -- 11: 08
           not (value-allowed o state) refused InvalidData or  -- 12: 05
           Accepted;
       answer = [];
@@ -79,14 +84,31 @@ setting-metadata c o see =
       session = see .session;
     }
 
+-- On another kind or a life cycle object it is 03, judged right after access; at another offset than 0, or where the value is at or past its
+-- threshold already, 08.
+unfoldable pub counting : List ℕ → Object → Seen → Operation
+counting c o see =
+    let d = direction (o .kind) in
+    record {
+      verdict =
+          not (is-counter (o .kind)) refused InvalidParam or  -- 03
+          not (eqb (offset c) 0) refused BoundaryExceeded or  -- 11: 08
+          exhausted d (o .content) refused BoundaryExceeded or  -- 11: 08
+          Accepted;
+      answer = [];
+      stores = some (with-content (after-count d (step-byte c) (o .content)) o);
+      session = see .session;
+    }
+
 -- every set answers with no data; to unfold it is to unfold what each action does
 unfoldable pub operation : Action → List ℕ → Object → Seen → Operation
-unfolding getting getting-metadata writing setting-metadata
+unfolding getting getting-metadata writing setting-metadata counting
 operation GetData c o see = getting c o see
 operation GetMetadata c o see = getting-metadata o see
 operation Write c o see = writing (o .content) c o see
 operation EraseAndWrite c o see = writing [] c o see
 operation SetMetadata c o see = setting-metadata c o see
+operation Count c o see = counting c o see
 
 -- what a command does that names no object: it answers with no data, and this is the session after it
 unfoldable pub setting-session : Session → Operation

@@ -40,6 +40,13 @@ smallest k = by-hand (hex "61 00 01 00" ++ k ∷ hex "00 01 00 00 00 01 00") "01
 unfoldable pub largest : ℕ → List ℕ
 largest k = by-hand (hex "3C 06 01 00" ++ k ∷ hex "00 DC 05 00 00 01 00") "01 00" "01 00" "01 00" (zeros 1500)
 
+-- a counter that counts up, and one that counts down, of these 8 bytes, under its number's low byte: changed and read always
+unfoldable pub up-counter : ℕ → List ℕ → List ℕ
+up-counter k content = by-hand (hex "68 00 02 00" ++ k ∷ hex "E1 08 00 08 00 01 00") "01 00" "01 00" "01 00" content
+
+unfoldable pub down-counter : ℕ → List ℕ → List ℕ
+down-counter k content = by-hand (hex "68 00 04 00" ++ k ∷ hex "E1 08 00 08 00 01 00") "01 00" "01 00" "01 00" content
+
 -- n records, numbered from k on
 unfoldable pub many : (ℕ → List ℕ) → ℕ → ℕ → List ℕ
 many r zero k = []

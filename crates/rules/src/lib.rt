@@ -37,9 +37,16 @@ pub enum Verdict {
     Accepted,
 }
 
+// Which way a counter counts to its threshold.
+pub enum Direction {
+    Up,
+    Down,
+}
+
 // The kind of an object: that of a record, or one of the session's.
 pub enum Kind {
     Data,
+    Counter(Direction),
     LifeCycle,
     Status,
 }
@@ -51,6 +58,7 @@ pub enum Action {
     Write,
     EraseAndWrite,
     SetMetadata,
+    Count,
 }
 
 // The row of the command table that Cmd and Param name.

@@ -1,14 +1,15 @@
--- A case for each sentence, row and cell of document 01 follows from the rules: antt computes the tables.
+-- A case for each sentence, row and cell of document 01, and for each about counters, follows from the rules: antt computes the tables.
 use mathlib.Core.Bool.{Bool, true}
 use mathlib.Core.List.{List}
 use mathlib.Core.Path.{_≡_, refl}
 use Rattle.rules.specs.Cases.{Case, all-right}
 use Rattle.rules.proofs.Bench.{computed}
 use Rattle.sentences.specs.Sentences.{text-line, command-cases, form-cases, row-cases, object-cases, expression-cases, store-cases, size-cases, factory-cases, session-cases, data-cases, metadata-cases, program-cases}
+use Rattle.sentences.specs.Counters.{trips, rides, of-kind, counter-record-cases, locked, unreadable, count-cases, counter-write-cases}
 
 -- `unfolding tabled` opens every rule and every table
 tabled : List Case → Bool
-unfolding computed text-line command-cases form-cases row-cases object-cases expression-cases store-cases size-cases factory-cases session-cases data-cases metadata-cases program-cases
+unfolding computed text-line command-cases form-cases row-cases object-cases expression-cases store-cases size-cases factory-cases session-cases data-cases metadata-cases program-cases trips rides of-kind counter-record-cases locked unreadable count-cases counter-write-cases
 tabled cs = all-right cs
 
 -- Command and response bytes
@@ -70,3 +71,18 @@ metadata-sentences = refl
 pub program-sentences : all-right program-cases ≡ true
 unfolding tabled
 program-sentences = refl
+
+-- counters: their records
+pub counter-record-sentences : all-right counter-record-cases ≡ true
+unfolding tabled
+counter-record-sentences = refl
+
+-- counts
+pub count-sentences : all-right count-cases ≡ true
+unfolding tabled
+count-sentences = refl
+
+-- counters read and written
+pub counter-write-sentences : all-right counter-write-cases ≡ true
+unfolding tabled
+counter-write-sentences = refl

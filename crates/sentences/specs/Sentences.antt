@@ -128,7 +128,7 @@ row-cases =
     talk three (opened 0x00)
     (hex "01 02 00 06 F1 D0 00 00 00 01" refused 0x03 leaving 0x03 ∷
     hex "01 40 00 06 F1 D0 00 00 00 01" refused 0x03 leaving 0x03 ∷
-    hex "02 02 00 05 F1 D1 00 00 AA" refused 0x03 leaving 0x03 ∷
+    hex "02 03 00 05 F1 D1 00 00 AA" refused 0x03 leaving 0x03 ∷
     hex "02 41 00 05 F1 D1 00 00 AA" refused 0x03 leaving 0x03 ∷
     hex "71 01 00 00" refused 0x03 leaving 0x03 ∷
     hex "01 02 00 00" refused 0x03 leaving 0x03 ∷
@@ -293,7 +293,7 @@ store-cases =
     sound (by-hand (hex "62 00 01 00 01 00 01 00 00 00 01 00") "01 00" "01 00" "01 00" (hex "00 00")) false ∷
     sound (by-hand (hex "61 01 01 00 01 00 01 00 00 00 01 00") "01 00" "01 00" "01 00" (hex "00")) false ∷
     sound (by-hand (hex "61 00 01 00 01 00 02 00 00 00 01 00") "01 00" "01 00" "01 00" (hex "00 00")) false ∷
-    -- kind 0001
+    -- kind 0001; those of counters are in Counters
     sound (by-hand (hex "61 00 00 00 01 00 01 00 00 00 01 00") "01 00" "01 00" "01 00" (hex "00")) false ∷
     sound (by-hand (hex "61 00 06 00 01 00 01 00 00 00 01 00") "01 00" "01 00" "01 00" (hex "00")) false ∷
     sound (by-hand (hex "61 00 00 01 01 00 01 00 00 00 01 00") "01 00" "01 00" "01 00" (hex "00")) false ∷

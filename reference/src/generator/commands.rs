@@ -1,9 +1,10 @@
 //! Commands of every row and their rooms, aimed at the present store and session.
 
+use crate::counter::{self, Counter};
 use crate::engine::{Row, CLOSE, FLUSH, GET, HEADER, IDENTIFIER, LONGEST_COMMAND, OPEN, SET};
 use crate::generator::contents::Content;
 use crate::generator::random::Random;
-use crate::generator::stores::{not_a_state, object_number};
+use crate::generator::stores::{not_a_state, object_number, random_counter};
 use crate::metadata;
 use crate::program::ROOM;
 use crate::replay::State;
@@ -31,11 +32,12 @@ enum Kind {
     Short,
 }
 
-const KINDS: [(usize, Kind); 10] = [
+const KINDS: [(usize, Kind); 11] = [
     (24, Kind::Row(Row::GetData)),
     (9, Kind::Row(Row::GetMetadata)),
     (20, Kind::Row(Row::Write)),
     (11, Kind::Row(Row::EraseAndWrite)),
+    (18, Kind::Row(Row::Count)),
     (22, Kind::Row(Row::SetMetadata)),
     (4, Kind::Row(Row::Open)),
     (2, Kind::Row(Row::Close)),
@@ -68,7 +70,7 @@ impl Commands {
     /// The store is looked at only if it is well formed.
     pub fn make(&mut self, state: &State, random: &mut Random) -> Generated {
         let view = View::new(state);
-        let kind = pick_kind(state, random);
+        let kind = pick_kind(&view, random);
         let (mut command, content, out_len) = self.make_kind(kind, &view, random);
         if random.chance(8) {
             wrong_frame(&mut command, random);
@@ -127,6 +129,7 @@ impl Commands {
             }
             Row::Write => (write(0x00, view, random), None, 0),
             Row::EraseAndWrite => (write(0x40, view, random), None, 0),
+            Row::Count => (count(view, random), None, 0),
             Row::SetMetadata => {
                 let (command, content) = self.set_metadata(view, random);
                 (command, content, 0)
@@ -168,10 +171,10 @@ impl Commands {
 }
 
 /// A kind of command; while step 5 refuses most, more of those it judges apart.
-fn pick_kind(state: &State, random: &mut Random) -> Kind {
-    let session = state.session;
+fn pick_kind(view: &View<'_>, random: &mut Random) -> Kind {
+    let session = view.state.session;
     if session.opened && session.lcsa != TERMINATION {
-        return random.pick_weighted(&KINDS);
+        return pick_judged_kind(view, random);
     }
     match random.below(100) {
         0..=49 => Kind::Row(Row::Open),
@@ -179,6 +182,16 @@ fn pick_kind(state: &State, random: &mut Random) -> Kind {
         57..=63 => Kind::UnknownParam,
         64..=68 => Kind::Row(Row::Close),
         _ => random.pick_weighted(&KINDS),
+    }
+}
+
+/// A kind of command; without a counter, fewer counts.
+fn pick_judged_kind(view: &View<'_>, random: &mut Random) -> Kind {
+    match random.pick_weighted(&KINDS) {
+        Kind::Row(Row::Count) if !view.has_counter() && random.chance(70) => {
+            random.pick_weighted(&KINDS)
+        }
+        kind => kind,
     }
 }
 
@@ -232,6 +245,30 @@ impl<'s> View<'s> {
     fn target_to_read(&self, random: &mut Random) -> Target<'s> {
         let granted = |record: &Record<'_>| record.grants(Slot::Read, self.state.session);
         self.preferred_target(granted, random)
+    }
+
+    /// A target that often has the size of a counter, and often is one that can be counted.
+    fn target_to_count(&self, random: &mut Random) -> Target<'s> {
+        let mut records = self.records.clone();
+        match random.chance(50) {
+            true => records.retain(|&record| self.can_be_counted(record)),
+            false => records.retain(|record| record.maximum() == counter::SIZE),
+        }
+        match random.chance(85) && !records.is_empty() {
+            true => Target::Stored(random.pick(&records)),
+            false => self.target_to_change(random),
+        }
+    }
+
+    fn can_be_counted(&self, record: Record<'_>) -> bool {
+        let goes_on = record
+            .counter()
+            .is_some_and(|counter| !counter.is_reached());
+        goes_on && record.grants(Slot::Change, self.state.session)
+    }
+
+    fn has_counter(&self) -> bool {
+        self.records.iter().any(|record| record.counter().is_some())
     }
 
     fn preferred_target(
@@ -368,10 +405,16 @@ fn boundary_length(offset: usize, used: usize, maximum: usize, random: &mut Rand
 }
 
 fn write(param: u8, view: &View<'_>, random: &mut Random) -> Vec<u8> {
-    let target = view.target_to_change(random);
+    let target = match random.chance(30) {
+        true => view.target_to_count(random),
+        false => view.target_to_change(random),
+    };
     let mut in_data = target.number().to_be_bytes().to_vec();
     let (offset, bytes) = match target {
-        Target::Stored(record) => stored_write(record.used(), record.maximum(), random),
+        Target::Stored(record) => match record.counter() {
+            Some(counter) => counter_write(counter, random),
+            None => stored_write(record.used(), record.maximum(), random),
+        },
         Target::Session(object) => session_write(view.state, object, random),
         Target::Absent(_) => stored_write(10, 20, random),
     };
@@ -415,6 +458,59 @@ fn stored_write(used: usize, maximum: usize, random: &mut Random) -> (usize, Vec
     (offset, bytes)
 }
 
+/// All of a counter's data, or a write that does not fit it.
+fn counter_write(present: Counter, random: &mut Random) -> (usize, Vec<u8>) {
+    if random.chance(60) {
+        let next = random_counter(present.direction, random);
+        return (0, next.to_data().to_vec());
+    }
+    let (offset, length) = match random.below(4) {
+        0 => (
+            0,
+            random.pick(&[1, 4, counter::SIZE - 1, counter::SIZE + 1]),
+        ),
+        1 => (1, random.pick(&[counter::SIZE - 1, counter::SIZE])),
+        2 => (random.pick(&[4, 8, 256, 65_528, 65_535]), counter::SIZE),
+        _ => return stored_write(counter::SIZE, counter::SIZE, random),
+    };
+    (offset, random.bytes(length))
+}
+
+/// A count; some have another length than the row, or an offset.
+fn count(view: &View<'_>, random: &mut Random) -> Vec<u8> {
+    let target = view.target_to_count(random);
+    let counter = match target {
+        Target::Stored(record) => record.counter(),
+        _ => None,
+    };
+    let offset: u16 = match random.chance(12) {
+        true => random.pick(&[1, 4, 7, 8, 256, 65_535]),
+        false => 0,
+    };
+    let mut in_data = target.number().to_be_bytes().to_vec();
+    in_data.extend_from_slice(&offset.to_be_bytes());
+    match random.chance(5) {
+        true => in_data.resize(in_data.len() + random.pick(&[0, 2, 4, 8]), 1),
+        false => in_data.push(step(counter, random)),
+    }
+    framed(SET, 0x02, &in_data)
+}
+
+/// A step at an end of its byte, next to the one that reaches the threshold, or any.
+fn step(counter: Option<Counter>, random: &mut Random) -> u8 {
+    let left = counter.map_or(7, |counter| counter.value.abs_diff(counter.threshold));
+    let left = left.min(u32::from(u8::MAX)) as u8;
+    match random.below(10) {
+        0 => 0,
+        1 => 1,
+        2 => u8::MAX,
+        3 | 4 => left,
+        5 => left.saturating_sub(1),
+        6 => left.saturating_add(1),
+        _ => random.byte(),
+    }
+}
+
 fn session_write(state: &State, object: SessionObject, random: &mut Random) -> (usize, Vec<u8>) {
     let present = state.session.byte(object);
     let value = match random.below(10) {
@@ -455,10 +551,10 @@ fn unknown_param(view: &View<'_>, random: &mut Random) -> Vec<u8> {
     let cmd = random.pick(&[GET, GET, SET, SET, OPEN, CLOSE]);
     let known: &[u8] = match cmd {
         GET => &[0x00, 0x01],
-        SET => &[0x00, 0x01, 0x40],
+        SET => &[0x00, 0x01, 0x02, 0x40],
         _ => &[0x00],
     };
-    let candidate = random.pick(&[0x01, 0x02, 0x40, 0x41, 0x80, 0xC0, 0xFF]);
+    let candidate = random.pick(&[0x01, 0x02, 0x03, 0x40, 0x41, 0x42, 0x80, 0xC0, 0xFF]);
     let param = match known.contains(&candidate) {
         true => random.byte_outside(known),
         false => candidate,

@@ -1,21 +1,27 @@
 //! Stores: well formed ones, and ones that break a single clause.
 
+use std::fmt;
+
+use crate::counter::{self, Counter, Direction};
 use crate::engine;
 use crate::generator::expressions::{expression, BadExpression};
 use crate::generator::random::Random;
 use crate::kinds::ObjectNumber;
 use crate::session::{Session, SessionObject, STATES};
 use crate::store::{
-    Fault, Slot, DATA, KIND, LARGEST_MAXIMUM, LARGEST_STORE, LCSO, LENGTH, MOST_RECORDS,
-    OBJECT_KIND, SLOT_SIZE, ZERO,
+    Fault, RecordKind, Slot, DATA, KIND, LARGEST_MAXIMUM, LARGEST_STORE, LCSO, LENGTH,
+    MOST_RECORDS, SLOT_SIZE, USED, ZERO,
 };
 
 /// The smallest record: one byte of data.
 const SMALLEST_RECORD: usize = DATA + 1;
+/// The record of a counter.
+const COUNTER_RECORD: usize = DATA + counter::SIZE;
 
 /// An object before it is put into a store.
 #[derive(Clone, Debug)]
 struct Object {
+    kind: RecordKind,
     number: u16,
     maximum: usize,
     lcso: u8,
@@ -37,11 +43,20 @@ impl Object {
             false => expression(random),
         };
         Object {
+            kind: RecordKind::Data,
             number,
             maximum,
             lcso: random.pick(&STATES),
             expressions: [change, expression(random), expression(random)],
             data: random.bytes(used),
+        }
+    }
+
+    fn counter(number: u16, direction: Direction, random: &mut Random) -> Object {
+        Object {
+            kind: RecordKind::Counter(direction),
+            data: random_counter(direction, random).to_data().to_vec(),
+            ..Object::new(number, counter::SIZE, random)
         }
     }
 
@@ -53,7 +68,7 @@ impl Object {
         let start = store.len();
         for number in [
             self.size() as u16,
-            OBJECT_KIND,
+            self.kind.number(),
             self.number,
             self.maximum as u16,
             self.data.len() as u16,
@@ -97,8 +112,67 @@ fn make_objects(numbers: &[u16], sizes: &[usize], random: &mut Random) -> Vec<Ob
     numbers
         .iter()
         .zip(sizes)
-        .map(|(&number, &size)| Object::new(number, size, random))
+        .map(|(&number, &size)| make_object(number, size, random))
         .collect()
+}
+
+/// An object of this maximum; where it can be a counter, it mostly is one.
+fn make_object(number: u16, maximum: usize, random: &mut Random) -> Object {
+    if maximum == counter::SIZE && random.chance(80) {
+        let direction = random.pick(&Direction::ALL);
+        return Object::counter(number, direction, random);
+    }
+    Object::new(number, maximum, random)
+}
+
+/// A counter short of its threshold, at it, next to it, past it, or anywhere.
+pub fn random_counter(direction: Direction, random: &mut Random) -> Counter {
+    let last = match direction {
+        Direction::Up => u32::MAX,
+        Direction::Down => 0,
+    };
+    let threshold = match random.below(9) {
+        0 => 0,
+        1 => u32::MAX,
+        2..=4 => last,
+        5 => carrying_number(random),
+        6 => random.between(1, 600) as u32,
+        _ => random.number() as u32,
+    };
+    let away = match random.chance(70) {
+        true => random.between(2, 255) as u32,
+        false => random.between(256, 100_000) as u32,
+    };
+    let (below, above) = (
+        threshold.saturating_sub(away),
+        threshold.saturating_add(away),
+    );
+    let short = match direction {
+        Direction::Up => below,
+        Direction::Down => above,
+    };
+    let value = match random.below(14) {
+        0 => threshold,
+        1 => threshold.saturating_sub(1),
+        2 => threshold.saturating_add(1),
+        3 => below,
+        4 => above,
+        5 => random.pick(&[0, u32::MAX]),
+        6 => carrying_number(random),
+        7 => random.number() as u32,
+        _ => short,
+    };
+    Counter {
+        direction,
+        value,
+        threshold,
+    }
+}
+
+/// A number at which a step carries from byte to byte.
+fn carrying_number(random: &mut Random) -> u32 {
+    let carried = 1u32 << random.pick(&[8, 16, 24, 31]);
+    carried - random.below(3) as u32
 }
 
 /// Maximums of records that stay within the largest store.
@@ -114,13 +188,14 @@ fn store_sizes(random: &mut Random) -> Vec<usize> {
     for place in 0..count {
         let reserved = (count - place - 1) * SMALLEST_RECORD;
         let limit = (left - reserved - DATA).min(LARGEST_MAXIMUM);
-        let size = match random.below(10) {
+        let size = match random.below(14) {
             0 => 1,
             1 => LARGEST_MAXIMUM,
             2 => random.between(LARGEST_MAXIMUM - 3, LARGEST_MAXIMUM),
             3 => random.between(1, LARGEST_MAXIMUM),
             4 | 5 => random.between(1, 140),
-            _ => random.between(1, 32),
+            6..=9 => random.between(1, 32),
+            _ => counter::SIZE,
         };
         sizes.push(size.min(limit));
         left -= DATA + sizes[place];
@@ -130,8 +205,14 @@ fn store_sizes(random: &mut Random) -> Vec<usize> {
 
 /// Maximums of records that fill the largest store exactly.
 fn full_store_sizes(random: &mut Random) -> Vec<usize> {
-    let count = random.between(11, MOST_RECORDS);
-    sizes_of_total(count, LARGEST_STORE, random)
+    let counters = random.between(0, 4);
+    let count = random.between(11, MOST_RECORDS - counters);
+    let total = LARGEST_STORE - counters * COUNTER_RECORD;
+    let mut sizes = sizes_of_total(count, total, random);
+    for _ in 0..counters {
+        sizes.insert(random.between(0, sizes.len()), counter::SIZE);
+    }
+    sizes
 }
 
 /// Maximums of `count` records of `total` bytes together.
@@ -177,6 +258,32 @@ pub fn object_number(random: &mut Random) -> u16 {
     }
 }
 
+/// The number of a kind, shown as four hex digits.
+#[derive(Clone, Copy, PartialEq, Eq)]
+pub struct KindNumber(u16);
+
+impl fmt::Debug for KindNumber {
+    fn fmt(&self, formatter: &mut fmt::Formatter<'_>) -> fmt::Result {
+        write!(formatter, "{:04X}", self.0)
+    }
+}
+
+/// Unknown kinds near the known ones, by number, by bit or by order of bytes, and at the ends.
+const UNKNOWN_KINDS: [KindNumber; 12] = [
+    KindNumber(0x0000),
+    KindNumber(0x0003),
+    KindNumber(0x0005),
+    KindNumber(0x0006),
+    KindNumber(0x0008),
+    KindNumber(0x0100),
+    KindNumber(0x0101),
+    KindNumber(0x0102),
+    KindNumber(0x0104),
+    KindNumber(0x0200),
+    KindNumber(0x0400),
+    KindNumber(0xFFFF),
+];
+
 /// The ways in which a store is malformed.
 #[derive(Clone, Copy, Debug, PartialEq, Eq)]
 pub enum Damage {
@@ -186,11 +293,14 @@ pub enum Damage {
     CutShort,
     TrailingBytes,
     RecordLength,
-    Kind,
+    Kind(KindNumber),
+    AnyKind,
     SessionObject(SessionObject),
     MaximumZero,
     MaximumAbove,
     UsedAboveMaximum,
+    CounterMaximum(Direction),
+    CounterUsed(Direction),
     LifeCycle,
     ZeroByte,
     Expression(Slot, BadExpression),
@@ -210,7 +320,7 @@ impl Damage {
             Damage::CutShort,
             Damage::TrailingBytes,
             Damage::RecordLength,
-            Damage::Kind,
+            Damage::AnyKind,
             Damage::MaximumZero,
             Damage::MaximumAbove,
             Damage::UsedAboveMaximum,
@@ -220,7 +330,10 @@ impl Damage {
             Damage::NumbersEqual,
             Damage::NumbersFalling,
         ];
+        all.extend(UNKNOWN_KINDS.map(Damage::Kind));
         all.extend(SessionObject::ALL.map(Damage::SessionObject));
+        all.extend(Direction::ALL.map(Damage::CounterMaximum));
+        all.extend(Direction::ALL.map(Damage::CounterUsed));
         all.extend(Slot::ALL.map(Damage::SlotLength));
         all.extend(Slot::ALL.map(Damage::SlotTail));
         for slot in Slot::ALL {
@@ -237,10 +350,12 @@ impl Damage {
             Damage::TooLong => Fault::TooLong,
             Damage::CutShort | Damage::TrailingBytes => Fault::CutShort,
             Damage::RecordLength => Fault::RecordLength,
-            Damage::Kind => Fault::Kind,
+            Damage::Kind(_) | Damage::AnyKind => Fault::Kind,
             Damage::SessionObject(_) => Fault::SessionObject,
             Damage::MaximumZero | Damage::MaximumAbove => Fault::Maximum,
             Damage::UsedAboveMaximum => Fault::Used,
+            Damage::CounterMaximum(_) => Fault::CounterMaximum,
+            Damage::CounterUsed(_) => Fault::CounterUsed,
             Damage::LifeCycle => Fault::LifeCycle,
             Damage::ZeroByte => Fault::ZeroByte,
             Damage::Expression(slot, _) | Damage::SlotLength(slot) => Fault::Expression(slot),
@@ -304,9 +419,32 @@ impl Damage {
                 object.maximum = LARGEST_MAXIMUM + 1;
             }
             Damage::UsedAboveMaximum => {
+                object.kind = RecordKind::Data;
                 object.data = vec![0; object.maximum];
             }
+            // Half of them are counters but for their kind.
+            Damage::Kind(_) | Damage::AnyKind if random.chance(50) => {
+                let direction = random.pick(&Direction::ALL);
+                *object = Object::counter(object.number, direction, random);
+            }
+            Damage::CounterMaximum(direction) => {
+                *object = Object::counter(object.number, direction, random);
+                object.maximum = match random.below(4) {
+                    0 => counter::SIZE - 1,
+                    1 => counter::SIZE + 1,
+                    2 => random.between(1, counter::SIZE - 1),
+                    _ => random.between(counter::SIZE + 1, LARGEST_MAXIMUM),
+                };
+                object.data.truncate(object.maximum);
+            }
+            Damage::CounterUsed(direction) => {
+                *object = Object::counter(object.number, direction, random);
+                if random.chance(60) {
+                    object.data.truncate(random.below(counter::SIZE));
+                }
+            }
             Damage::DataTail => {
+                object.kind = RecordKind::Data;
                 object.data.truncate(random.below(object.maximum));
             }
             Damage::Expression(slot, bad) => {
@@ -337,17 +475,16 @@ impl Damage {
                 let wrong = if wrong == size { 0 } else { wrong };
                 put_number(bytes, LENGTH, wrong);
             }
-            Damage::Kind => {
-                let kind = random.pick(&[0x0000, 0x0002, 0x0100, 0x0101, 0xFFFF]);
-                put_number(bytes, KIND, kind);
-            }
-            Damage::UsedAboveMaximum => {
+            Damage::Kind(kind) => put_number(bytes, KIND, kind.0),
+            Damage::AnyKind => put_number(bytes, KIND, unknown_kind(random)),
+            Damage::CounterUsed(_) if object.data.len() < counter::SIZE => {}
+            Damage::UsedAboveMaximum | Damage::CounterUsed(_) => {
                 let used = match random.below(3) {
                     0 => object.maximum + 1,
                     1 => 0xFFFF,
                     _ => random.between(object.maximum + 1, 0xFFFF),
                 };
-                put_number(bytes, crate::store::USED, used as u16);
+                put_number(bytes, USED, used as u16);
             }
             Damage::LifeCycle => {
                 bytes[LCSO] = match random.chance(50) {
@@ -393,6 +530,16 @@ impl Damage {
                 bytes[dirty] = random.nonzero_byte();
             }
             _ => {}
+        }
+    }
+}
+
+/// Any kind that no record has.
+fn unknown_kind(random: &mut Random) -> u16 {
+    loop {
+        let kind = random.number() as u16;
+        if RecordKind::from_number(kind).is_none() {
+            return kind;
         }
     }
 }

@@ -29,6 +29,21 @@ pub fn factory_store() -> Vec<u8> {
     store
 }
 
+/// The record of a counter with always in each slot: kind 2 counts up, kind 4 down.
+pub fn counter_record(kind: u8, object: u16, value: u32, threshold: u32) -> Vec<u8> {
+    let mut bytes = vec![104, 0, kind, 0];
+    bytes.extend_from_slice(&object.to_le_bytes());
+    bytes.extend_from_slice(&[8, 0, 8, 0, 1, 0]);
+    for _ in 0..3 {
+        let start = bytes.len();
+        bytes.push(1);
+        bytes.resize(start + 28, 0);
+    }
+    bytes.extend_from_slice(&value.to_be_bytes());
+    bytes.extend_from_slice(&threshold.to_be_bytes());
+    bytes
+}
+
 #[derive(Clone, Debug, PartialEq, Eq)]
 pub struct Element {
     pub store: Vec<u8>,
@@ -46,6 +61,13 @@ impl Element {
     pub fn opened() -> Element {
         let mut element = Element::fresh();
         element.session.opened = true;
+        element
+    }
+
+    /// The opened factory store with these records before its own.
+    pub fn with_records(records: &[Vec<u8>]) -> Element {
+        let mut element = Element::opened();
+        element.store.splice(0..0, records.concat());
         element
     }
 
@@ -174,6 +196,10 @@ pub fn write(object: u16, offset: u16, bytes: &[u8]) -> Vec<u8> {
 
 pub fn erase_and_write(object: u16, offset: u16, bytes: &[u8]) -> Vec<u8> {
     set(0x40, object, offset, bytes)
+}
+
+pub fn count(object: u16, offset: u16, step: u8) -> Vec<u8> {
+    set(0x02, object, offset, &[step])
 }
 
 /// A metadata write of this content, led by 20 and its length.

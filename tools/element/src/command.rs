@@ -21,12 +21,47 @@ pub fn in_words(command: &[u8]) -> String {
         (0x02, 0x00) => write("write", data),
         (0x02, 0x40) => write("erase and write", data),
         (0x02, 0x01) => write_metadata(data),
+        (0x02, 0x02) => count(data),
         (0x70, 0x00) => open(data),
         (0x71, 0x00) => close(data),
         (known, _) => unknown(known, *param),
     };
     let flush = if cmd & FLUSH != 0 { "flush, " } else { "" };
     format!("{flush}{what}{}", length_note(*high, *low, data))
+}
+
+/// What a command does with an object's data, by its Cmd and Param.
+#[derive(Clone, Copy, Debug, PartialEq, Eq)]
+pub enum Action {
+    /// Reads it.
+    Read,
+    /// Writes it, erasing or not.
+    Write,
+    /// Counts.
+    Count {
+        /// The place that it names.
+        offset: u16,
+    },
+}
+
+/// What a command of a whole header does with an object's data, if anything.
+pub fn action(command: &[u8]) -> Option<Action> {
+    match command {
+        [0x01 | 0x81, 0x00, _, _, ..] => Some(Action::Read),
+        [0x02 | 0x82, 0x00 | 0x40, _, _, ..] => Some(Action::Write),
+        [0x02 | 0x82, 0x02, _, _, _, _, high, low, ..] => Some(Action::Count {
+            offset: pair(high, low),
+        }),
+        _ => None,
+    }
+}
+
+/// The object that a command names, if it is a get or a set that has one.
+pub fn object(command: &[u8]) -> Option<u16> {
+    match command {
+        [0x01 | 0x81 | 0x02 | 0x82, _, _, _, high, low, ..] => Some(pair(high, low)),
+        _ => None,
+    }
 }
 
 fn length_note(high: u8, low: u8, data: &[u8]) -> String {
@@ -93,6 +128,18 @@ fn write_metadata(data: &[u8]) -> String {
     }
 }
 
+/// The offset is told only where it is not the 0 that it must be.
+fn count(data: &[u8]) -> String {
+    let [o1, o2, a1, a2, step] = data else {
+        return short("count", data, "5: object, offset, step");
+    };
+    let object = names::object(pair(o1, o2));
+    match pair(a1, a2) {
+        0 => format!("count {object} by {step}"),
+        offset => format!("count {object} at {offset} by {step}"),
+    }
+}
+
 fn open(data: &[u8]) -> String {
     match data {
         IDENTIFIER => "open the application".into(),
@@ -115,7 +162,7 @@ fn close(data: &[u8]) -> String {
 fn unknown(cmd: u8, param: u8) -> String {
     let (name, expected) = match cmd {
         0x01 => ("get", "00 or 01"),
-        0x02 => ("set", "00, 01 or 40"),
+        0x02 => ("set", "00, 01, 02 or 40"),
         0x70 => ("open", "00"),
         0x71 => ("close", "00"),
         _ => return format!("unknown Cmd {cmd:02X}, expected 01, 02, 70 or 71"),
@@ -150,11 +197,36 @@ mod tests {
             said("02 01 00 07 F1 D0 20 03 C0 01 07"),
             "write metadata of F1D0: LcsO 07 operational"
         );
+        assert_eq!(said("02 02 00 05 F1 D0 00 00 05"), "count F1D0 by 5");
         assert_eq!(
             said("70 00 00 10 D2 76 00 00 04 47 65 6E 41 75 74 68 41 70 70 6C"),
             "open the application"
         );
         assert_eq!(said("F1 00 00 00"), "flush, close the application");
+    }
+
+    #[test]
+    fn what_a_command_does_with_data() {
+        let of = |text| action(&hex::bytes(text, 1).unwrap());
+        assert_eq!(of("81 00 00 06 F1 D0"), Some(Action::Read));
+        assert_eq!(of("02 00 00 05 F1 D0"), Some(Action::Write));
+        assert_eq!(of("82 40 00 05 F1 D0"), Some(Action::Write));
+        let offset = 0x0102;
+        assert_eq!(
+            of("02 02 00 05 F1 D0 01 02 05"),
+            Some(Action::Count { offset })
+        );
+        for text in [
+            "01 01 00 02 F1 D0",
+            "02 01 00 02 F1 D0",
+            "01 02 00 00",
+            "02 00",
+        ] {
+            assert_eq!(of(text), None, "{text}");
+        }
+        assert_eq!(object(&[0x82, 2, 0, 5, 0xF1, 0xD0, 0]), Some(0xF1D0));
+        assert_eq!(object(&[0x70, 0, 0, 2, 0xF1, 0xD0]), None);
+        assert_eq!(object(&[0x01, 0, 0, 1, 0xF1]), None);
     }
 
     #[test]
@@ -169,6 +241,10 @@ mod tests {
             "get with unknown Param 40, expected 00 or 01"
         );
         assert_eq!(
+            said("02 03 00 00"),
+            "set with unknown Param 03, expected 00, 01, 02 or 40"
+        );
+        assert_eq!(
             said("71 00 00 01"),
             "close the application (InLen says 1, 0 bytes follow)"
         );
@@ -179,6 +255,18 @@ mod tests {
         assert_eq!(
             said("02 00 00 04 F1 D0 00 00"),
             "write with 4 bytes of InData, expected at least 5: object, offset, bytes"
+        );
+        assert_eq!(
+            said("82 02 00 05 E0 C0 00 01 FF"),
+            "flush, count E0C0 (LcsG) at 1 by 255"
+        );
+        assert_eq!(
+            said("02 02 00 04 F1 D0 00 00"),
+            "count with 4 bytes of InData, expected 5: object, offset, step"
+        );
+        assert_eq!(
+            said("02 02 00 06 F1 D0 00 00 01 01"),
+            "count with 6 bytes of InData, expected 5: object, offset, step"
         );
         assert_eq!(
             said("70 00 00 01 D2"),

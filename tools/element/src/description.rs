@@ -1,9 +1,12 @@
 //! Descriptions: an object to a line, and the store that they describe.
+use element::{kind, COUNTER_SIZE};
+
+use crate::counter::{Counter, Direction};
 use crate::expression;
 use crate::faults;
 use crate::hex;
 use crate::names;
-use crate::record::{self, Record, HEAD, KIND, LARGEST_OBJECT, SLOT};
+use crate::record::{self, Record, HEAD, LARGEST_OBJECT, SLOT};
 use crate::scan::{self, Scan};
 use crate::trouble::Slip;
 
@@ -11,10 +14,17 @@ use crate::trouble::Slip;
 #[derive(Debug, PartialEq, Eq)]
 struct Described {
     object: u16,
-    maximum: u16,
+    kind: u16,
+    maximum: usize,
     lcso: u8,
     expressions: [Vec<u8>; 3],
     data: Vec<u8>,
+}
+
+/// What a line says behind the object's number.
+enum Front {
+    Maximum(u16),
+    Counter(Counter),
 }
 
 /// The store that a text describes, or the first slip of each line that has one.
@@ -47,8 +57,7 @@ fn described(mut scan: Scan, before: Option<u16>) -> Result<Described, Slip> {
     if let Some(why) = faults::object_fault(object, before) {
         return Err(Slip::at(column, why));
     }
-    keyword(&mut scan, "maximum")?;
-    let maximum = scan.one_of(&format!("a number from 1 to {LARGEST_OBJECT}"), maximum)?;
+    let front = read_front(&mut scan)?;
     keyword(&mut scan, "lcso")?;
     let lcso = scan.one_of(names::STATES_EXPECTED, names::state_of)?;
     let mut expressions: [Vec<u8>; 3] = Default::default();
@@ -56,13 +65,55 @@ fn described(mut scan: Scan, before: Option<u16>) -> Result<Described, Slip> {
         keyword(&mut scan, name)?;
         *slot = read_expression(&mut scan)?;
     }
-    let data = read_data(&mut scan, maximum)?;
+    let (kind, maximum, data) = match front {
+        Front::Maximum(maximum) => (kind::DATA, maximum.into(), read_data(&mut scan, maximum)?),
+        Front::Counter(counter) => {
+            scan.end("the end of the line")?;
+            let data = counter.state.to_bytes().to_vec();
+            (counter.direction.kind(), COUNTER_SIZE, data)
+        }
+    };
     Ok(Described {
         object,
+        kind,
         maximum,
         lcso,
         expressions,
         data,
+    })
+}
+
+/// `maximum COUNT`, or `counter DIRECTION value NUMBER threshold NUMBER`.
+fn read_front(scan: &mut Scan) -> Result<Front, Slip> {
+    let is_counter = scan.one_of("maximum or counter", |word| {
+        match word.to_ascii_lowercase().as_str() {
+            "maximum" => Some(false),
+            "counter" => Some(true),
+            _ => None,
+        }
+    })?;
+    match is_counter {
+        true => read_counter(scan).map(Front::Counter),
+        false => scan
+            .one_of(&format!("a number from 1 to {LARGEST_OBJECT}"), maximum)
+            .map(Front::Maximum),
+    }
+}
+
+fn read_counter(scan: &mut Scan) -> Result<Counter, Slip> {
+    let direction = scan.one_of("up or down", Direction::of_name)?;
+    keyword(scan, "value")?;
+    let value = read_number(scan)?;
+    keyword(scan, "threshold")?;
+    let threshold = read_number(scan)?;
+    let state = element::Counter { value, threshold };
+    Ok(Counter { direction, state })
+}
+
+fn read_number(scan: &mut Scan) -> Result<u32, Slip> {
+    scan.one_of(&format!("a number from 0 to {}", u32::MAX), |word| {
+        let digits = word.chars().all(|c| c.is_ascii_digit());
+        digits.then(|| word.parse().ok()).flatten()
     })
 }
 
@@ -117,12 +168,11 @@ fn read_data(scan: &mut Scan, maximum: u16) -> Result<Vec<u8>, Slip> {
 }
 
 fn packed(object: &Described) -> Vec<u8> {
-    let maximum = usize::from(object.maximum);
-    let used = object.data.len();
+    let (maximum, used) = (object.maximum, object.data.len());
     let mut record = Vec::new();
     let number = |value: usize| u16::try_from(value).unwrap_or(u16::MAX).to_le_bytes();
     record.extend(number(HEAD + maximum));
-    record.extend(KIND.to_le_bytes());
+    record.extend(object.kind.to_le_bytes());
     record.extend(object.object.to_le_bytes());
     record.extend(number(maximum));
     record.extend(number(used));
@@ -147,10 +197,11 @@ pub fn of_store(store: &[u8]) -> String {
 }
 
 fn line(record: &Record) -> String {
+    let counter = Counter::of(record);
     let mut line = format!(
-        "{:04X} maximum {} lcso {}",
+        "{:04X} {} lcso {}",
         record.object(),
-        record.maximum(),
+        front(record, counter),
         names::state(record.lcso()).unwrap_or("(no state)")
     );
     for (index, name) in names::SLOTS.iter().enumerate() {
@@ -160,12 +211,24 @@ fn line(record: &Record) -> String {
             false => format!(" {name} {text}"),
         });
     }
-    if !record.data().is_empty() {
+    if counter.is_none() && !record.data().is_empty() {
         line.push_str(" data ");
         line.push_str(&hex::spaced(record.data()));
     }
     line.push('\n');
     line
+}
+
+fn front(record: &Record, counter: Option<Counter>) -> String {
+    match counter {
+        Some(Counter { direction, state }) => format!(
+            "counter {} value {} threshold {}",
+            direction.name(),
+            state.value,
+            state.threshold
+        ),
+        None => format!("maximum {}", record.maximum()),
+    }
 }
 
 #[cfg(test)]
@@ -174,6 +237,9 @@ mod tests {
     use crate::check;
     use element::{Element, Session, FACTORY_STORE_SIZE};
 
+    const UP: &str = "F1D0 counter up value 12 threshold 300 lcso operational change always read always execute never";
+    const DOWN: &str =
+        "F1D1 counter down value 10 threshold 0 lcso creation change \"LcsO < operational\" read always execute never";
     const LINE: &str = "F1D0 maximum 140 lcso creation change \"LcsO < operational\" read always execute never data 01 02";
 
     fn slip(text: &str) -> (usize, usize, String) {
@@ -190,6 +256,39 @@ mod tests {
         assert_eq!(records[0].data(), [1, 2]);
         assert_eq!(records[0].expression(2), [0xFF]);
         assert_eq!(of_store(&store), format!("# 1 object, 236 bytes\n{LINE}\n"));
+    }
+
+    #[test]
+    fn a_counters_line_becomes_a_record() {
+        let store = to_store(&format!("{UP}\n{DOWN}")).unwrap();
+        assert!(check::is_well_formed(&store));
+        assert_eq!(store.len(), 208);
+        let front = [0x68, 0, 2, 0, 0xD0, 0xF1, 8, 0, 8, 0, 7, 0, 1, 0];
+        assert_eq!(store[..14], front);
+        assert_eq!(store[96..104], [0, 0, 0, 12, 0, 0, 0x01, 0x2C]);
+        let front = [0x68, 0, 4, 0, 0xD1, 0xF1, 8, 0, 8, 0, 1, 0, 3, 0xE1];
+        assert_eq!(store[104..118], front);
+        assert_eq!(store[200..], [0, 0, 0, 10, 0, 0, 0, 0]);
+        assert_eq!(
+            of_store(&store),
+            format!("# 2 objects, 208 bytes\n{UP}\n{DOWN}\n")
+        );
+    }
+
+    #[test]
+    fn every_counter_goes_both_ways() {
+        for value in [0, 1, 299, 300, 301, u32::MAX] {
+            let line = UP.replace("value 12", &format!("value {value}"));
+            for line in [line.clone(), line.replace("up", "down")] {
+                let line = line.replace("threshold 300", "threshold 4294967295");
+                let store = to_store(&line).unwrap();
+                assert!(check::is_well_formed(&store), "{line}");
+                let written = of_store(&store);
+                assert_eq!(written, format!("# 1 object, 104 bytes\n{line}\n"));
+            }
+        }
+        let loose = "f1d0\tCounter UP Value 0012  threshold 300 LCSO 07 change ALWAYS read always execute \"never\" # x";
+        assert_eq!(to_store(loose), to_store(UP));
     }
 
     #[test]
@@ -223,7 +322,12 @@ mod tests {
             1,
             "'+1D0' stands here, expected an object number of four hex digits",
         ),
-        ("F1D0 max 1", 1, 6, "'max' stands here, expected maximum"),
+        (
+            "F1D0 max 1",
+            1,
+            6,
+            "'max' stands here, expected maximum or counter",
+        ),
         (
             "F1D0 maximum 0",
             1,
@@ -283,6 +387,71 @@ mod tests {
             "'dada' stands here, expected data or the end of the line",
         ),
     ];
+
+    /// What is replaced in the line of a counter, by what, and the column and words that follow.
+    const COUNTERS: [(&str, &str, usize, &str); 10] = [
+        (
+            "up",
+            "upward",
+            14,
+            "'upward' stands here, expected up or down",
+        ),
+        ("up ", "", 14, "'value' stands here, expected up or down"),
+        ("value", "from", 17, "'from' stands here, expected value"),
+        (
+            "12",
+            "-1",
+            23,
+            "'-1' stands here, expected a number from 0 to 4294967295",
+        ),
+        (
+            "12",
+            "0C",
+            23,
+            "'0C' stands here, expected a number from 0 to 4294967295",
+        ),
+        (
+            "12 threshold",
+            "12 to",
+            26,
+            "'to' stands here, expected threshold",
+        ),
+        (
+            "300",
+            "4294967296",
+            36,
+            "'4294967296' stands here, expected a number from 0 to 4294967295",
+        ),
+        (
+            "lcso",
+            "maximum 8 lcso",
+            40,
+            "'maximum' stands here, expected lcso",
+        ),
+        (
+            "execute never",
+            "execute never data 01",
+            97,
+            "'data' stands here, expected the end of the line",
+        ),
+        (
+            "execute never",
+            "execute",
+            90,
+            "nothing stands here, expected always, never or an expression in quotes",
+        ),
+    ];
+
+    #[test]
+    fn slips_of_counters_have_line_and_column() {
+        for (old, new, column, why) in COUNTERS {
+            let text = UP.replacen(old, new, 1);
+            assert_eq!(slip(&text), (1, column, why.to_owned()), "{text}");
+        }
+        let (line, column, why) = slip("\nF1C0 counter up value 0 threshold 1");
+        assert_eq!((line, column), (2, 1));
+        assert!(why.starts_with("object F1C0 is LcsA"), "{why}");
+    }
 
     #[test]
     fn slips_have_line_and_column() {

@@ -1,8 +1,11 @@
 //! What is malformed in a store: which record, and why.
+use element::COUNTER_SIZE;
+
+use crate::counter::Direction;
 use crate::expression;
 use crate::names;
 use crate::record::{
-    length_at, records, Record, HEAD, KIND, LARGEST_OBJECT, LARGEST_STORE, RECORDS, SLOT,
+    length_at, records, Record, HEAD, KINDS, LARGEST_OBJECT, LARGEST_STORE, RECORDS, SLOT,
 };
 
 /// What is malformed.
@@ -106,24 +109,46 @@ fn record_faults(record: &Record, before: Option<u16>) -> Vec<String> {
 
 fn number_faults(record: &Record) -> Vec<String> {
     let mut faults = Vec::new();
-    let (maximum, used, length) = (record.maximum(), record.used(), record.bytes.len());
-    if record.kind() != KIND {
-        faults.push(format!("kind {:04X}, expected 0001", record.kind()));
+    let (maximum, length) = (record.maximum(), record.bytes.len());
+    if !KINDS.contains(&record.kind()) {
+        faults.push(format!(
+            "kind {:04X}, expected 0001, 0002 or 0004",
+            record.kind()
+        ));
     }
-    if !(1..=LARGEST_OBJECT).contains(&maximum) {
-        faults.push(format!("maximum {maximum}, expected 1 to {LARGEST_OBJECT}"));
+    if let Some(why) = maximum_fault(record) {
+        faults.push(why);
     } else if length != HEAD + maximum {
         faults.push(format!(
             "length {length} with a maximum of {maximum}, expected {}",
             HEAD + maximum
         ));
     }
-    if used > maximum {
-        faults.push(format!(
-            "used {used}, expected at most the maximum of {maximum}"
-        ));
-    }
+    faults.extend(used_fault(record));
     faults
+}
+
+fn is_counter(record: &Record) -> bool {
+    Direction::of_kind(record.kind()).is_some()
+}
+
+fn maximum_fault(record: &Record) -> Option<String> {
+    let maximum = record.maximum();
+    if is_counter(record) {
+        return (maximum != COUNTER_SIZE)
+            .then(|| format!("maximum {maximum} of a counter, expected {COUNTER_SIZE}"));
+    }
+    (!(1..=LARGEST_OBJECT).contains(&maximum))
+        .then(|| format!("maximum {maximum}, expected 1 to {LARGEST_OBJECT}"))
+}
+
+fn used_fault(record: &Record) -> Option<String> {
+    let (maximum, used) = (record.maximum(), record.used());
+    if is_counter(record) {
+        return (used != COUNTER_SIZE)
+            .then(|| format!("used {used} of a counter, expected {COUNTER_SIZE}"));
+    }
+    (used > maximum).then(|| format!("used {used}, expected at most the maximum of {maximum}"))
 }
 
 /// Why an object number may not stand in a store behind the one before it.
@@ -157,8 +182,11 @@ fn slot_fault(slot: &[u8]) -> Option<String> {
     ))
 }
 
-/// Data past used is zero.
+/// Data past used is zero; of a counter all is in use.
 fn tail_fault(record: &Record) -> Option<String> {
+    if is_counter(record) {
+        return None;
+    }
     let from = HEAD + record.used();
     let (at, byte) = first_not_zero(record.part(from, record.bytes.len()))?;
     Some(format!(
@@ -205,8 +233,9 @@ mod tests {
     }
 
     /// A byte of the small store, its new value, and what is said of it.
-    const CHANGES: [(usize, u8, &str); 13] = [
-        (2, 2, "kind 0002, expected 0001"),
+    const CHANGES: [(usize, u8, &str); 14] = [
+        (2, 3, "kind 0003, expected 0001, 0002 or 0004"),
+        (3, 1, "kind 0101, expected 0001, 0002 or 0004"),
         (6, 5, "length 100 with a maximum of 5, expected 101"),
         (7, 6, "maximum 1540, expected 1 to 1500"),
         (8, 5, "used 5, expected at most the maximum of 4"),
@@ -255,6 +284,63 @@ mod tests {
             let expected = format!("record 1 (F1D0) at byte 0: {why}");
             assert_eq!(changed(at, byte), [expected]);
         }
+    }
+
+    /// A store of one counter, with one byte changed.
+    fn counter(at: usize, byte: u8) -> Vec<u8> {
+        let mut store = vec![104, 0, 2, 0, 0xD0, 0xF1, 8, 0, 8, 0, 1, 0];
+        for _ in 0..3 {
+            store.push(1);
+            store.resize(store.len() + SLOT - 1, 0);
+        }
+        store.extend([0, 0, 0, 12, 0, 0, 1, 44]);
+        store[at] = byte;
+        store
+    }
+
+    #[test]
+    fn any_value_with_any_threshold_is_sound() {
+        for (at, byte) in [(2, 2), (2, 4), (96, 0xFF), (99, 0), (103, 0)] {
+            let store = counter(at, byte);
+            assert!(is_well_formed(&store), "byte {at} is {byte:02X}");
+            assert_eq!(faults(&store), []);
+        }
+    }
+
+    /// A byte of the counter's store, its new value, and what is said of it.
+    const OF_A_COUNTER: [(usize, u8, &str); 7] = [
+        (2, 6, "kind 0006, expected 0001, 0002 or 0004"),
+        (6, 9, "maximum 9 of a counter, expected 8"),
+        (6, 0, "maximum 0 of a counter, expected 8"),
+        (8, 7, "used 7 of a counter, expected 8"),
+        (8, 9, "used 9 of a counter, expected 8"),
+        (9, 1, "used 264 of a counter, expected 8"),
+        (10, 2, "LcsO 02, expected 01, 03, 07 or 0F"),
+    ];
+
+    #[test]
+    fn each_fault_of_a_counter_is_told() {
+        for (at, byte, why) in OF_A_COUNTER {
+            let store = counter(at, byte);
+            assert!(!is_well_formed(&store), "byte {at} is {byte:02X}");
+            let told: Vec<String> = faults(&store).iter().map(Fault::line).collect();
+            assert_eq!(told, [format!("record 1 (F1D0) at byte 0: {why}")]);
+        }
+    }
+
+    #[test]
+    fn a_counter_of_another_size_is_told() {
+        let mut store = small();
+        store[2] = 4;
+        assert!(!is_well_formed(&store));
+        let told: Vec<String> = faults(&store).into_iter().map(|fault| fault.why).collect();
+        assert_eq!(
+            told,
+            [
+                "maximum 4 of a counter, expected 8",
+                "used 2 of a counter, expected 8"
+            ]
+        );
     }
 
     #[test]

@@ -14,7 +14,7 @@ usage: element SUBCOMMAND ..
   new FILE                 makes a factory store
   make FILE DESCRIPTION    makes a store from a readable description
   check FILE               says whether a store is well formed, else which record is malformed and why
-  show FILE                shows each object: numbers, life cycle, expressions, data, how full it is
+  show FILE                shows each object: numbers, life cycle, expressions, data, how full or how far it is
   run FILE LIST            carries out a list of commands and keeps store and session
 
   element SUBCOMMAND --help    more about one of them
@@ -46,14 +46,18 @@ pub const MAKE: &str = "\
 Makes a store from a description, one object to a line, numbers rising:
 
   F1D0 maximum 140 lcso creation change \"LcsO < operational\" read always execute always data 01 02
+  F1D1 counter up value 12 threshold 300 lcso operational change always read always execute never
 
 usage: element make FILE DESCRIPTION [--force]
 
   --force    replaces a store that is there, and its session by the fresh one
 
   line        NUMBER maximum COUNT lcso STATE change EXPRESSION read EXPRESSION execute EXPRESSION [data HEX]
+  counter     NUMBER counter DIRECTION value VALUE threshold VALUE lcso STATE and the three EXPRESSIONs as above
   NUMBER      four hex digits; E0C0, F1C0 and F1C2 live in the session and may not stand here
   COUNT       1 to 1500
+  DIRECTION   up or down
+  VALUE       0 to 4294967295; any value may stand with any threshold
   STATE       creation (01), initialisation (03), operational (07) or termination (0F), by name or number
   EXPRESSION  always, never, or in quotes: conditions joined by and and or; and binds first
   condition   LcsG, LcsA or LcsO; then =, > or <; then a STATE
@@ -81,6 +85,10 @@ pub const SHOW: &str = "\
 Shows the session and each object: number, kind, how full it is, used and maximum, LcsO, the three
 expressions, and the data in use as rows of place, hex and text.
 
+Of a counter it shows the direction, value and threshold, and how many steps of 1 are left to go, or that it
+is at or past its threshold. The bar of a counter up is its value as a part of its threshold, full from there
+on. A counter down has no bar: its first value is not kept, so that only what is left to go is known.
+
 usage: element show FILE [--description]
 
   --description    writes a description instead, from which `element make` gives the same bytes
@@ -91,7 +99,8 @@ Exit status: 0 done; 1 the store is malformed (what `element check` says is show
 /// `element run --help`.
 pub const RUN: &str = "\
 Carries out a list of commands, each on what the one before left, and shows each command in words, its
-response, and a refusal by its own number (the last error may hold a higher one).
+response, and a refusal by its own number (the last error may hold a higher one). Of a counter that is read
+whole, written or counted it shows how far it is then, as `element show` does.
 
 usage: element run FILE LIST [--dry] [--accept-refusals] [--plain] [--room BYTES]
 

@@ -14,6 +14,7 @@ pub mod answer;
 pub mod args;
 pub mod check;
 pub mod command;
+pub mod counter;
 pub mod description;
 pub mod expression;
 pub mod faults;

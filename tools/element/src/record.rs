@@ -1,4 +1,6 @@
 //! The layout of a store: its records one by one, as far as their lengths lead.
+use element::kind;
+
 use crate::names;
 
 /// The bytes of a record before its data.
@@ -11,8 +13,8 @@ pub const LARGEST_OBJECT: usize = 1500;
 pub const RECORDS: usize = 32;
 /// The most bytes of a store.
 pub const LARGEST_STORE: usize = 16384;
-/// The kind of every record.
-pub const KIND: u16 = 0x0001;
+/// The kinds of records.
+pub const KINDS: [u16; 3] = [kind::DATA, kind::COUNTER_UP, kind::COUNTER_DOWN];
 
 const FIRST_SLOT: usize = 12;
 
@@ -98,6 +100,13 @@ pub fn records(store: &[u8]) -> Vec<Record<'_>> {
     records
 }
 
+/// The record of an object, if one has its number.
+pub fn find(store: &[u8], object: u16) -> Option<Record<'_>> {
+    records(store)
+        .into_iter()
+        .find(|record| record.object() == object)
+}
+
 /// The length of the record at a place, if one stands there whole; else why not.
 pub fn length_at(store: &[u8], place: usize) -> Result<usize, String> {
     let rest = store.get(place..).unwrap_or(&[]);
@@ -143,6 +152,8 @@ mod tests {
         assert_eq!(record.expression(2), [0xFF]);
         assert_eq!(record.data(), [9, 8]);
         assert_eq!((records[1].place, records[1].object()), (100, 0xF1D1));
+        assert_eq!(find(&store, 0xF1D1), Some(records[1]));
+        assert_eq!(find(&store, 0xF1D2), None);
     }
 
     #[test]

@@ -6,10 +6,13 @@ use element::{Element, Session, LARGEST_ROOM};
 
 use crate::answer::Exchange;
 use crate::check;
+use crate::command;
+use crate::counter::Counter;
 use crate::files;
 use crate::keep::{Kept, Place};
 use crate::list::{self, Entry};
 use crate::names;
+use crate::record;
 use crate::trouble::{Report, Status, Trouble};
 
 const REFUSED: u8 = 0xFF;
@@ -74,7 +77,13 @@ pub fn send(kept: &mut Kept, command: &[u8], room: usize) -> Exchange {
         response,
         refused,
         last_error: kept.session.error,
+        counter: counter_named(&kept.store, command),
     }
+}
+
+fn counter_named(store: &[u8], command: &[u8]) -> Option<Counter> {
+    let record = record::find(store, command::object(command)?)?;
+    Counter::of(&record)
 }
 
 /// The last error may hold a higher number: the refused command is sent again on a session with a last error of 0. No judgment looks at the last error,
@@ -140,6 +149,7 @@ fn summary(exchanges: &[Exchange], refused: usize) -> String {
 #[cfg(test)]
 mod tests {
     use super::*;
+    use crate::description;
     use crate::hex;
     use element::FACTORY_STORE_SIZE;
 
@@ -171,6 +181,26 @@ mod tests {
         assert_eq!(kept.session.error, 8);
         let flushed = said(&mut kept, "81 01 00 02 F2 00");
         assert_eq!((flushed.refused, flushed.last_error), (Some(1), 1));
+    }
+
+    #[test]
+    fn the_counter_that_a_command_names_is_learned() {
+        let text = "F1D0 counter up value 8 threshold 10 lcso creation change always read always execute never\nF1D1 maximum 8 lcso creation change always read always execute never data 00 00 00 08 00 00 00 0A";
+        let mut kept = Kept {
+            store: description::to_store(text).unwrap(),
+            session: Session::fresh(),
+        };
+        said(&mut kept, OPEN);
+        let mut left = |text| {
+            let exchange = said(&mut kept, text);
+            let counter = exchange.counter.map(|counter| counter.state.value);
+            (exchange.refused, counter)
+        };
+        assert_eq!(left("02 02 00 05 F1 D0 00 00 01"), (None, Some(9)));
+        assert_eq!(left("02 02 00 05 F1 D0 00 00 FF"), (None, Some(10)));
+        assert_eq!(left("02 02 00 05 F1 D0 00 00 01"), (Some(8), Some(10)));
+        assert_eq!(left("02 02 00 05 F1 D1 00 00 01"), (Some(3), None));
+        assert_eq!(left("02 02 00 05 F1 D2 00 00 01"), (Some(1), None));
     }
 
     #[test]

@@ -4,6 +4,7 @@ use std::path::Path;
 use element::Session;
 
 use crate::check;
+use crate::counter::{Counter, Direction};
 use crate::description;
 use crate::expression;
 use crate::hex;
@@ -41,12 +42,10 @@ pub fn show(file: &Path, as_description: bool) -> Result<Report, Trouble> {
 
 fn object(record: &Record) -> String {
     let mut text = format!(
-        "{:04X}  kind {:04X}  {}  used {} of {}  LcsO {}\n",
+        "{:04X}  kind {:04X}  {}  LcsO {}\n",
         record.object(),
         record.kind(),
-        bar(record.used(), record.maximum()),
-        record.used(),
-        record.maximum(),
+        how_far(record),
         names::state_shown(record.lcso()),
     );
     for (index, name) in names::SLOTS.iter().enumerate() {
@@ -55,6 +54,29 @@ fn object(record: &Record) -> String {
     }
     text.push_str(&hex::rows(record.data(), "      "));
     text
+}
+
+/// How full an object is, or how far a counter is. A counter down has no bar: the value that it began with is not kept.
+fn how_far(record: &Record) -> String {
+    let (used, maximum) = (record.used(), record.maximum());
+    let Some(counter) = Counter::of(record) else {
+        return format!("{}  used {used} of {maximum}", bar(used, maximum));
+    };
+    let name = format!("counter {}", counter.direction.name());
+    let words = counter.in_words();
+    match counter.direction {
+        Direction::Up => format!("{name}  {}  {words}", counter_bar(&counter)),
+        Direction::Down => format!("{name}  {words}"),
+    }
+}
+
+/// How far a counter up is: full from its threshold on.
+fn counter_bar(counter: &Counter) -> String {
+    let element::Counter { value, threshold } = counter.state;
+    match counter.to_go() {
+        Some(1..) => bar(value as usize, threshold as usize),
+        _ => bar(1, 1),
+    }
 }
 
 /// How full an object is: one byte in use is seen, and so is one that is free.
@@ -80,6 +102,58 @@ mod tests {
         assert_eq!(bar(1499, 1500), "[###################.]");
         assert_eq!(bar(1, 1), "[####################]");
         assert_eq!(bar(9, 0), "[####################]");
+    }
+
+    #[test]
+    fn the_bar_of_a_counter_is_full_from_its_threshold_on() {
+        let of = |value, threshold| {
+            let state = element::Counter { value, threshold };
+            let direction = Direction::Up;
+            counter_bar(&Counter { direction, state })
+        };
+        assert_eq!(of(0, 300), "[....................]");
+        assert_eq!(of(12, 300), "[#...................]");
+        assert_eq!(of(150, 300), "[##########..........]");
+        assert_eq!(of(u32::MAX - 1, u32::MAX), "[###################.]");
+        for (value, threshold) in [(300, 300), (301, 300), (0, 0), (u32::MAX, 0)] {
+            assert_eq!(of(value, threshold), "[####################]");
+        }
+    }
+
+    /// A counter as it is shown.
+    fn shown(line: &str) -> String {
+        let store = description::to_store(line).unwrap();
+        object(&record::records(&store)[0])
+    }
+
+    #[test]
+    fn a_counter_up_is_shown() {
+        let line = "F1D0 counter up value 12 threshold 300 lcso operational change always read always execute never";
+        assert_eq!(
+            shown(line),
+            "F1D0  kind 0002  counter up  [#...................]  12 of 300, 288 to go  LcsO 07 operational\n      change   always\n      read     always\n      execute  never\n         0  00 00 00 0C 00 00 01 2C                          .......,\n"
+        );
+        let first = |value| {
+            let text = shown(&line.replace("12", value));
+            text.lines().next().map(str::to_owned)
+        };
+        assert_eq!(
+            first("300").as_deref(),
+            Some("F1D0  kind 0002  counter up  [####################]  300 of 300, at its threshold  LcsO 07 operational")
+        );
+        assert_eq!(
+            first("301").as_deref(),
+            Some("F1D0  kind 0002  counter up  [####################]  301 of 300, past its threshold  LcsO 07 operational")
+        );
+    }
+
+    #[test]
+    fn a_counter_down_is_shown() {
+        let line = "F1D1 counter down value 10 threshold 2 lcso creation change \"LcsO < operational\" read always execute never";
+        assert_eq!(
+            shown(line),
+            "F1D1  kind 0004  counter down  10 down to 2, 8 to go  LcsO 01 creation\n      change   LcsO < operational\n      read     always\n      execute  never\n         0  00 00 00 0A 00 00 00 02                          ........\n"
+        );
     }
 
     #[test]

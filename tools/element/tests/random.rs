@@ -7,11 +7,17 @@ use element_tool::keep::Kept;
 use element_tool::{check, command, description, expression, faults, list, metadata, record, run};
 
 /// The words of both texts, and some that belong to none.
-const WORDS: [&str; 32] = [
+const WORDS: [&str; 38] = [
     "F1D0",
     "F1E0",
     "E0C0",
     "maximum",
+    "counter",
+    "up",
+    "down",
+    "value",
+    "threshold",
+    "4294967296",
     "140",
     "1501",
     "lcso",
@@ -90,7 +96,7 @@ fn change(numbers: &mut Numbers, store: &mut Vec<u8>) {
             false => numbers.one(&heads) + numbers.below(100),
         };
         let special = [
-            0, 1, 3, 4, 7, 0x0F, 0x1B, 0x70, 0xE0, 0xE1, 0xFA, 0xFC, 0xFD, 0xFE, 0xFF,
+            0, 1, 2, 3, 4, 7, 8, 0x0F, 0x1B, 0x70, 0xE0, 0xE1, 0xFA, 0xFC, 0xFD, 0xFE, 0xFF,
         ];
         let byte = match numbers.below(3) {
             0 => numbers.byte(),
@@ -182,7 +188,7 @@ fn random_commands_are_told() {
         let mut bytes = numbers.bytes(40);
         if let [cmd, param, high, low, ..] = bytes.as_mut_slice() {
             *cmd = numbers.one(&[1, 2, 0x70, 0x71, 0x81, 0x82, 0x55]);
-            *param = numbers.one(&[0, 1, 0x40, 2]);
+            *param = numbers.one(&[0, 1, 0x40, 2, 3]);
             (*high, *low) = (0, numbers.byte());
         }
         assert!(!command::in_words(&bytes).is_empty());
@@ -210,7 +216,7 @@ fn random_commands_are_run() {
     for _ in 0..20000 {
         let [high, low] = numbers.one(&objects).to_be_bytes();
         let content = numbers.bytes(12);
-        let mut bytes = vec![numbers.one(&[1, 2, 0x81]), numbers.one(&[0, 1, 0x40]), 0];
+        let mut bytes = vec![numbers.one(&[1, 2, 0x81]), numbers.one(&[0, 1, 2, 0x40]), 0];
         bytes.push(2 + content.len() as u8);
         bytes.extend([high, low]);
         bytes.extend(content);

@@ -2,7 +2,7 @@
 #![allow(dead_code)]
 
 use element::{Element, Error, Length, ObjectNumber, Offset, Refusal, Session};
-use element::{FACTORY_STORE_SIZE, LARGEST_COMMAND, LARGEST_ROOM, LEAD};
+use element::{CREATION, FACTORY_STORE_SIZE, LARGEST_COMMAND, LARGEST_ROOM, LEAD};
 
 /// The first object of the factory table, 140 bytes.
 pub const FARES: ObjectNumber = ObjectNumber(0xF1D0);
@@ -21,6 +21,21 @@ pub fn factory_store() -> Vec<u8> {
     let mut store = vec![0; FACTORY_STORE_SIZE];
     Element::factory(&mut store, &mut Session::fresh()).expect("6,024 bytes are a factory store");
     store
+}
+
+/// A record whose data is all in use and always granted, byte by byte.
+pub fn record(kind: u16, object: ObjectNumber, data: &[u8]) -> Vec<u8> {
+    let size = data.len() as u16;
+    let mut record = [96 + size, kind, object.0, size, size]
+        .map(u16::to_le_bytes)
+        .concat();
+    record.extend([CREATION, 0]);
+    for _ in 0..3 {
+        record.push(1);
+        record.resize(record.len() + 27, 0);
+    }
+    record.extend(data);
+    record
 }
 
 /// An element over a store and a session of its own.

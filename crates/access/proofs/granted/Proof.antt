@@ -11,5 +11,5 @@ unfolding asked expression-in
 granted-spec = tie.close (tie.spec
     (λ c κs. search needs) (λ c. search needs) (λ c κs. search needs) (λ c. search needs) (λ c. search needs)
     (λ c κs. search needs) (λ c. search needs) (λ c κs. search needs) (λ c. search needs) (λ c κs. search needs)
-    (λ c. search by-slot) (λ c. search free) (λ c. search by-slot) (λ c. search by-slot)
-    (λ c. search (by-slot, set-asks)))
+    (λ c. search needs) (λ c κs. search needs) (λ c. search by-slot) (λ c. search free) (λ c. search by-slot) (λ c. search by-slot)
+    (λ c. search (by-slot, set-asks)) (λ c. search by-slot))

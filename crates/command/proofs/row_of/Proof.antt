@@ -13,4 +13,5 @@ row-of-spec = tie.close (tie.spec
     (λ c. search choices depth 20 fits 20000) (λ c κs. search needs) (λ c. search choices depth 20 fits 20000)
     (λ c κs. search needs) (λ c. search choices depth 20 fits 20000) (λ c κs. search needs)
     (λ c. search choices depth 20 fits 20000) (λ c κs. search needs) (λ c. search choices depth 20 fits 20000)
-    (λ c κs. search needs) (λ c. search choices depth 20 fits 20000) (λ c. search choices depth 20 fits 20000))
+    (λ c κs. search needs) (λ c. search choices depth 20 fits 20000) (λ c κs. search needs)
+    (λ c. search choices depth 20 fits 20000) (λ c. search choices depth 20 fits 20000))

@@ -1,11 +1,9 @@
 -- `judge::judge_write` meets its contract.
 use Rattle.command.proofs.Tests.{steps-not}
-use Rattle.judge.proofs.Judging.{sent-within}
 use borrow.Author.Needs.{needs}
 use Rattle.judge.proofs.judge_write.Statement.{statement}
 use Rattle.judge.proofs.judge_write.Tie as tie
 
 pub judge-write-spec : {M : Type 1} → statement M
 judge-write-spec = tie.close (tie.spec
-    (λ c κs. search needs) (λ c κs. search needs) (λ c κs. search needs) (λ c. search (steps-not, sent-within)) (λ c κs. search needs)
-    (λ c. search (steps-not, sent-within)))
+    (λ c κs. search needs) (λ c. search steps-not) (λ c κs. search needs) (λ c. search steps-not))

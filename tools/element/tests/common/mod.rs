@@ -78,12 +78,19 @@ pub fn description(numbers: &mut Numbers) -> String {
     let (mut lines, mut object, mut size) = (String::new(), 0, 0);
     for _ in 0..1 + numbers.below(32) {
         object += 1 + numbers.below(2000);
-        let maximum = 1 + numbers.below(numbers_limit(size));
+        let is_counter = numbers.below(4) == 0;
+        let maximum = match is_counter {
+            true => 8,
+            false => 1 + numbers.below(numbers_limit(size)),
+        };
         if [0xE0C0, 0xF1C0, 0xF1C2].contains(&object) || size + 96 + maximum > 16384 {
             continue;
         }
         size += 96 + maximum;
-        lines.push_str(&object_line(numbers, object, maximum));
+        lines.push_str(&match is_counter {
+            true => counter_line(numbers, object),
+            false => object_line(numbers, object, maximum),
+        });
     }
     lines
 }
@@ -97,15 +104,7 @@ fn numbers_limit(size: usize) -> usize {
 }
 
 fn object_line(numbers: &mut Numbers, object: usize, maximum: usize) -> String {
-    let state = numbers.one(&["creation", "initialisation", "operational", "termination"]);
-    let mut line = format!("{object:04X} maximum {maximum} lcso {state}");
-    for slot in ["change", "read", "execute"] {
-        let text = expression(numbers);
-        line.push_str(&match text.contains(' ') {
-            true => format!(" {slot} \"{text}\""),
-            false => format!(" {slot} {text}"),
-        });
-    }
+    let mut line = format!("{object:04X} maximum {maximum}{}", middle(numbers));
     let data = numbers.bytes(maximum + 1);
     if !data.is_empty() {
         line.push_str(" data");
@@ -113,4 +112,29 @@ fn object_line(numbers: &mut Numbers, object: usize, maximum: usize) -> String {
     }
     line.push('\n');
     line
+}
+
+fn counter_line(numbers: &mut Numbers, object: usize) -> String {
+    let limit = numbers.one(&[3, 300, 1 << 32]);
+    format!(
+        "{object:04X} counter {} value {} threshold {}{}\n",
+        numbers.one(&["up", "down"]),
+        numbers.below(limit),
+        numbers.below(limit),
+        middle(numbers)
+    )
+}
+
+/// LcsO and the three expressions.
+fn middle(numbers: &mut Numbers) -> String {
+    let state = numbers.one(&["creation", "initialisation", "operational", "termination"]);
+    let mut text = format!(" lcso {state}");
+    for slot in ["change", "read", "execute"] {
+        let words = expression(numbers);
+        text.push_str(&match words.contains(' ') {
+            true => format!(" {slot} \"{words}\""),
+            false => format!(" {slot} {words}"),
+        });
+    }
+    text
 }
