@@ -58,7 +58,7 @@ fn set_state(command: &[u8], number: ObjectNumber, session: Session, room: &mut 
     session::with_state(number, command[8], session)
 }
 
-// At an object of the session: the session after it. Its metadata was refused at step 10, and so was a count of it.
+// At an object of the session: the session after it. Its metadata, and a count of it, were refused before.
 pub fn act_in_session(
     asked: Action,
     command: &[u8],

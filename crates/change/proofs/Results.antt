@@ -16,14 +16,14 @@ use Rattle.rules.specs.Counter.{after-count}
 use Rattle.rules.specs.Layout.{slot-size, head-size, record-size, slot-at, slot-of, slot, record-bytes}
 use Rattle.rules.specs.Operation.{put-at}
 use Rattle.laws.proofs.Facts.{allowed}
-use Rattle.laws.proofs.Fitting.{counter-maximum, counter-content, count-length}
+use Rattle.laws.proofs.Fitting.{count-length}
 use Rattle.laws.proofs.Expressions.{expression-length}
 use Rattle.laws.proofs.Puts.{put-used}
 use Rattle.laws.proofs.Inverse.{record-length, slot-length}
 use Rattle.primitives.specs.Bytes.{over}
 use Rattle.primitives.proofs.Over.{over-length}
 use Rattle.record.specs.Places.{object-at, Stored, with-record}
-use Rattle.record.proofs.Standing.{standing, data-here, slot-in-head}
+use Rattle.record.proofs.Standing.{standing, stored-counter, data-here, slot-in-head}
 use Rattle.change.specs.Change.{counted-at, with-lcso, with-expression}
 use Rattle.change.proofs.Inside.{over-inside, lent-over, lent-whole}
 use Rattle.change.proofs.Zeros.{padded, put-padded, put-zeroed, over-padded, padded-full}
@@ -121,10 +121,10 @@ module _ (p : ℕ) (b : List ℕ) (s : Stored p b) where
     -- a counter: its bytes are all of the data part
     module _ (c : is-counter (object-at p b .kind) ≡ true) where
       maximum : object-at p b .maximum ≡ counter-size
-      maximum = counter-maximum (object-at p b) ok c
+      maximum = stored-counter p b s c .0
 
       in-use : used (object-at p b) ≡ counter-size
-      in-use = counter-content (object-at p b) ok c
+      in-use = stored-counter p b s c .1
 
       counter-lent : take (e - (p + head-size)) (drop (p + head-size) b) ≡ object-at p b .content
       counter-lent =

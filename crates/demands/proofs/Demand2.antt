@@ -51,14 +51,14 @@ record Writing (a : Action) (c : List ℕ) (o : Object) (see : Seen) : Type 0 wh
   puts : operation a c o see .stores ≡ some (changed a c o)
 
 -- the refusals of a count in one: 03 where the object is no counter, else 08
-count-judged : (counter front at-end : Bool) →
+count-refusals : (counter front at-end : Bool) →
     (not counter refused InvalidParam or not front refused BoundaryExceeded or at-end refused BoundaryExceeded or Accepted) ≡
     (not (counter && front && not at-end) refused (if counter then BoundaryExceeded else InvalidParam) or Accepted)
 unfolding _refused_or_
-count-judged true true true = refl
-count-judged true true false = refl
-count-judged true false at-end = refl
-count-judged false front at-end = refl
+count-refusals true true true = refl
+count-refusals true true false = refl
+count-refusals true false at-end = refl
+count-refusals false front at-end = refl
 
 module _ (c : List ℕ) (o : Object) (see : Seen) (kind : of-session (o .kind) ≡ false) where
   -- any value may be written
@@ -76,7 +76,7 @@ module _ (c : List ℕ) (o : Object) (see : Seen) (kind : of-session (o .kind) �
       record { refusal = BoundaryExceeded; asks = refl; judges = rw (any-value (getD (sent-data c) 0 0)); silent = refl; puts = rw kind }
   action-writes SetMetadata w = record { refusal = InvalidData; asks = rw kind; judges = refl; silent = refl; puts = refl }
   action-writes Count w =
-      let judged = count-judged (is-counter (o .kind)) (eqb (offset c) 0) (exhausted (direction (o .kind)) (o .content)) in
+      let judged = count-refusals (is-counter (o .kind)) (eqb (offset c) 0) (exhausted (direction (o .kind)) (o .content)) in
       record { refusal = _; asks = refl; judges = judged; silent = refl; puts = refl }
 
 -- one command on a ready element -------------------------------------------------------------------------------------------

@@ -15,7 +15,7 @@ use Rattle.rules.specs.declared.Direction.{Direction}
 use Rattle.rules.specs.declared.Direction.the-variants.{Up, Down}
 use Rattle.rules.specs.declared.ObjectNumber.{ObjectNumber}
 use Rattle.rules.specs.declared.Verdict.{Verdict}
-use Rattle.rules.specs.declared.Verdict.the-variants.{Accepted}
+use Rattle.rules.specs.declared.Verdict.the-variants.{Refused, Accepted}
 use Rattle.rules.specs.declared.Refusal.{Refusal}
 use Rattle.rules.specs.declared.Refusal.the-variants.{AccessDenied, BoundaryExceeded, InvalidData}
 use Rattle.rules.specs.declared.Action.{Action}
@@ -32,13 +32,13 @@ use Rattle.rules.specs.Operation.{write-fits, value-allowed, operation}
 use Rattle.rules.specs.Refusals.{ruling-on, fitting, late}
 use Rattle.laws.proofs.Tests.{or-parts}
 use Rattle.laws.proofs.Puts.{shown-length}
-use Rattle.laws.proofs.Fitting.{counter-content}
 use Rattle.record.specs.Places.{object-at, Stored}
-use Rattle.record.proofs.Standing.{standing, stored-kind}
+use Rattle.command.proofs.Tests.{not-alike}
+use Rattle.record.proofs.Standing.{stored-kind, stored-counter}
 use Rattle.judge.specs.declared.Target.{Target}
 use Rattle.judge.specs.declared.Target.the-variants.{InSession, InStore}
 use Rattle.judge.specs.Targets.{target-object, Placed}
-use Rattle.judge.specs.Verdicts.{get-verdict, write-verdict, count-verdict, state-verdict, session-count-verdict, session-verdict}
+use Rattle.judge.specs.Verdicts.{get-verdict, write-verdict, state-verdict, session-count-verdict, session-verdict}
 
 -- what the calls gave ---------------------------------------------------------------------------------------------------------
 
@@ -68,15 +68,15 @@ counter-told o q e h = sym e ∙ not-false q h
 
 -- the counter at a found record: all of its data is in use
 module _ (p : ℕ) (b : List ℕ) (t : Stored p b) (h : is-counter (object-at p b .kind) ≡ true) where
-  pub counter-long : 0 + counter-size ≤ used (object-at p b)
-  counter-long = omega (arith, counter-content (object-at p b) (standing p b (t .stands) .allowed) h)
+  pub counter-in-use : 0 + counter-size ≤ used (object-at p b)
+  counter-in-use = omega (arith, stored-counter p b t h .1)
 
   module _ (d : List ℕ) (e : d ≡ take counter-size (drop 0 (object-at p b .content))) where
     whole : d ≡ object-at p b .content
-    whole = e ∙ take-all counter-size (object-at p b .content) (omega (arith, counter-content (object-at p b) (standing p b (t .stands) .allowed) h))
+    whole = e ∙ take-all counter-size (object-at p b .content) (omega (arith, stored-counter p b t h .1))
 
     pub counter-part : length d ≡ counter-size
-    counter-part = ap length whole ∙ counter-content (object-at p b) (standing p b (t .stands) .allowed) h
+    counter-part = ap length whole ∙ stored-counter p b t h .1
 
     pub exhausted-there : (w : Direction) (r : Bool) → w ≡ direction (object-at p b .kind) → r ≡ exhausted w d →
         r ≡ exhausted (direction (object-at p b .kind)) (object-at p b .content)
@@ -113,6 +113,17 @@ unfolding _refused_or_ _and-then_
 then-later true r v w = refl
 then-later false r v w = refl
 
+-- a step of an action's verdict whose test was called
+pub stop-own : {t q : Bool} (k : Refusal) (v w : Verdict) → q ≡ t → q ≡ true → Refused k ≡ ((t refused k or v) and-then w)
+unfolding _refused_or_ _and-then_
+stop-own k v w e h = rw (← e, h)
+
+pub next-own : {t q : Bool} {r : Verdict} (k : Refusal) (v w : Verdict) → q ≡ t → q ≡ false → r ≡ (v and-then w) → r ≡ ((t refused k or v) and-then w)
+unfolding _refused_or_
+next-own k v w e h f = rw (← e, h) f
+
+pub ruleset own-steps = (stop-own, next-own, not-alike)
+
 module _ (c : List ℕ) (o : Object) (see : Seen) (room : ℕ) where
   abbrev own : Action → Verdict
   own a = operation a c o see .verdict and-then fitting (length (operation a c o see .answer)) room
@@ -130,10 +141,6 @@ module _ (c : List ℕ) (o : Object) (see : Seen) (room : ℕ) where
       by : (t : Bool) → leb (offset c + asked-length c) (used o) ≡ t → get-verdict c (used o) room ≡ own GetData
       by true e = rw (e, shown-length c (o .content) (leb-true _ _ e))
       by false e = rw e
-
-  count-own : count-verdict c o room ≡ own Count
-  unfolding operation _and-then_
-  count-own = simp then-later
 
 -- at an object of the session -----------------------------------------------------------------------------------------------
 
@@ -185,9 +192,6 @@ module _ (p : ℕ) (b c : List ℕ) (room : ℕ) (r : Verdict) where
 
     pub stored-get : (u : ℕ) → u ≡ used (object-at p b) → r ≡ get-verdict c u room → r ≡ own c (object-at p b) see room GetData
     stored-get u eu f = cc (get-own c (object-at p b) see room)
-
-    pub stored-count : r ≡ count-verdict c (object-at p b) room → r ≡ own c (object-at p b) see room Count
-    stored-count f = f ∙ count-own c (object-at p b) see room
 
   -- of either action that writes
   pub stored-write : Stored p b → r ≡ write-verdict c (object-at p b) room →

@@ -1,8 +1,8 @@
 -- What an action's own steps and step 13 say, by what the code knows of the object.
 use Prim.Native.Nat.{ℕ, _+_}
 use mathlib.Core.Bool.{not}
-use mathlib.Core.List.{List}
-use lib.Dec.{eqb, leb}
+use mathlib.Core.List.{List, []}
+use lib.Dec.{leb}
 use lib.ListN.{length, getD}
 use Rattle.rules.specs.declared.Kind.{Kind}
 use Rattle.rules.specs.declared.Kind.the-variants.{LifeCycle}
@@ -13,12 +13,18 @@ use Rattle.rules.specs.declared.Verdict.{Verdict}
 use Rattle.rules.specs.declared.Verdict.the-variants.{Refused}
 use Rattle.rules.specs.Command.{offset, asked-length, sent-data}
 use Rattle.rules.specs.Expression.{may-become}
-use Rattle.rules.specs.Object.{Object, is, is-counter, direction}
-use Rattle.rules.specs.Counter.{exhausted}
-use Rattle.rules.specs.Metadata.{metadata-allowed}
-use Rattle.rules.specs.Chain.{_refused_or_}
-use Rattle.rules.specs.Operation.{write-fits}
+use Rattle.rules.specs.Object.{Object, is}
+use Rattle.rules.specs.Factory.{fresh-session}
+use Rattle.rules.specs.Chain.{_refused_or_, _and-then_}
+use Rattle.rules.specs.Access.{seen}
+use Rattle.rules.specs.Operation.{write-fits, operation}
 use Rattle.rules.specs.Refusals.{fitting}
+
+-- an action's own steps, as the rules have them, and step 13: none looks at what is seen
+abbrev pub own-verdict : Action → List ℕ → Object → ℕ → Verdict
+own-verdict a c o room =
+    let p = operation a c o (seen [] fresh-session) in
+    p .verdict and-then fitting (length (p .answer)) room
 
 -- a get of data, where `limit` bytes are used
 abbrev pub get-verdict : List ℕ → ℕ → ℕ → Verdict
@@ -26,25 +32,11 @@ get-verdict c limit room =
     not (leb (offset c + asked-length c) limit) refused BoundaryExceeded or
     fitting (asked-length c) room
 
--- a write of data
+-- a write of data to a stored object, which takes any value
 abbrev pub write-verdict : List ℕ → Object → ℕ → Verdict
 write-verdict c o room =
     not (write-fits o (offset c) (length (sent-data c))) refused BoundaryExceeded or
     fitting 0 room
-
--- a count
-abbrev pub count-verdict : List ℕ → Object → ℕ → Verdict
-count-verdict c o room =
-    not (is-counter (o .kind)) refused InvalidParam or
-    not (eqb (offset c) 0) refused BoundaryExceeded or
-    exhausted (direction (o .kind)) (o .content) refused BoundaryExceeded or
-    fitting 0 room
-
--- a count of an object of the session, access included
-abbrev pub session-count-verdict : Kind → Verdict
-session-count-verdict k =
-    is LifeCycle k refused InvalidParam or
-    Refused AccessDenied
 
 -- a write to an object of the session, access included
 abbrev pub state-verdict : List ℕ → Kind → ℕ → ℕ → Verdict
@@ -54,11 +46,11 @@ state-verdict c k byte room =
     not (may-become byte (getD (sent-data c) 0 0)) refused InvalidData or
     fitting 0 room
 
--- a set of metadata
-abbrev pub metadata-verdict : ℕ → List ℕ → ℕ → Verdict
-metadata-verdict lcso m room =
-    not (metadata-allowed lcso m) refused InvalidData or
-    fitting 0 room
+-- a count of an object of the session, access included
+abbrev pub session-count-verdict : Kind → Verdict
+session-count-verdict k =
+    is LifeCycle k refused InvalidParam or
+    Refused AccessDenied
 
 -- each action at an object of the session, access included
 abbrev pub session-verdict : Action → List ℕ → Kind → ℕ → ℕ → Verdict

@@ -14,8 +14,9 @@ ghost use mathlib.Core.Option.{some};
 ghost use Prim.Native.Nat.{_≤_};
 ghost use lib.ListN.{length};
 ghost use Rattle.rules.specs.declared.Kind.the-variants.{LifeCycle};
+ghost use Rattle.rules.specs.declared.Action.the-variants.{SetMetadata, Count};
 ghost use Rattle.rules.specs.Basic.{is-some};
-ghost use Rattle.rules.specs.Command.{object-number, offset, sent-data, sent-metadata};
+ghost use Rattle.rules.specs.Command.{object-number, offset, sent-data};
 ghost use Rattle.rules.specs.Object.{is, is-counter, direction};
 ghost use Rattle.rules.specs.Layout.{unpack};
 ghost use Rattle.rules.specs.Counter.{exhausted};
@@ -25,7 +26,7 @@ ghost use Rattle.rules.specs.Refusals.{ruling-on, late};
 ghost use Rattle.command.specs.Table.{InFull};
 ghost use Rattle.record.specs.Places.{object-at, Stored};
 ghost use Rattle.judge.specs.Targets.{target-object, Placed};
-ghost use Rattle.judge.specs.Verdicts.{get-verdict, write-verdict, state-verdict, metadata-verdict, count-verdict, session-count-verdict, session-verdict};
+ghost use Rattle.judge.specs.Verdicts.{get-verdict, write-verdict, state-verdict, own-verdict, session-count-verdict, session-verdict};
 
 // What a get or set names: an object of the session (its number, kind and byte), a record's place, or nothing.
 pub enum Target {
@@ -105,7 +106,7 @@ fn exhausted(store: &[u8], at: usize) -> bool
 // Of a count at a found record: 03 where it is no counter, then the steps 11 and 13.
 fn judge_count(command: &[u8], store: &[u8], at: usize, room: usize) -> Verdict
     requires { ⌜ Stored at (now store) × (8 ≤ length (now command)) ⌝ }
-    ensures { λ r. ⌜ r ≡ count-verdict (now (command .entry)) (object-at at (now (store .entry))) room ⌝ }
+    ensures { λ r. ⌜ r ≡ own-verdict Count (now (command .entry)) (object-at at (now (store .entry))) room ⌝ }
 {
     let front = command::offset(command).0 == 0;
     if !record::is_counter(store, at) {
@@ -179,7 +180,7 @@ fn judge_session(asked: Action, command: &[u8], kind: Kind, byte: u8, room: usiz
 // Steps 12 and 13 of a set of metadata at a found record: content is judged at the LcsO that is stored.
 fn judge_metadata(command: &[u8], store: &[u8], at: usize, room: usize) -> Verdict
     requires { ⌜ Stored at (now store) × (6 ≤ length (now command)) ⌝ }
-    ensures { λ r. ⌜ r ≡ metadata-verdict (object-at at (now (store .entry)) .lcso) (sent-metadata (now (command .entry))) room ⌝ }
+    ensures { λ r. ⌜ r ≡ own-verdict SetMetadata (now (command .entry)) (object-at at (now (store .entry))) room ⌝ }
 {
     let content = command::sent_metadata(command);
     let stored = record::lcso_at(store, at);

@@ -11,10 +11,11 @@ use Rattle.rules.specs.declared.Slot.{Slot}
 use Rattle.rules.specs.declared.Slot.the-variants.{Change, Read, Execute}
 use Rattle.rules.specs.Basic.{same, zeros, little-endian-at}
 use Rattle.rules.specs.Expression.{Expression, expression-bytes, expression-allowed}
-use Rattle.rules.specs.Object.{Object, used, kind-number, of-session, object-allowed, expression-in}
+use Rattle.rules.specs.Object.{Object, used, kind-number, of-session, is-counter, counter-size, object-allowed, expression-in}
 use Rattle.rules.specs.Layout.{slot-size, slots-at, head-size, slot-at, record-size, slot, record-bytes, read-record}
 use Rattle.rules.specs.Layout.{read-record-with, record-bytes-with, slot-at-with, slot-of-with}
 use Rattle.laws.proofs.Facts.{storable, allowed}
+use Rattle.laws.proofs.Fitting.{counter-maximum, counter-content}
 use Rattle.laws.proofs.Tests.{and-left, and-right, same-eq, same-refl}
 use Rattle.laws.proofs.Expressions.{expression-length}
 use Rattle.laws.proofs.Inverse.{slot-length, record-length, record-read, two-bytes, past-two, past-three}
@@ -155,6 +156,13 @@ stored-facts p b h =
     let counted = used-here p b o _ (s .allowed) (s .here) in
     let small : (w : Slot) → getD b (p + slot-at w) 0 ≤ slot-size - 1 = λ w. slot-small _ b _ (slot-here p b o _ (s .allowed) (s .here) w) in
     search (h, s, a, kind, number, maximum, state, counted, small Change, small Read, small Execute)
+
+-- a stored counter: its maximum, and all of it is in use
+pub stored-counter : (p : ℕ) (b : List ℕ) → Stored p b → is-counter (object-at p b .kind) ≡ true →
+    (object-at p b .maximum ≡ counter-size) × (used (object-at p b) ≡ counter-size)
+stored-counter p b s c =
+    let ok = standing p b (s .stands) .allowed in
+    (counter-maximum (object-at p b) ok c, counter-content (object-at p b) ok c)
 
 -- the kind of what is stored is none of the session's
 pub stored-kind : (p : ℕ) (b : List ℕ) → Stored p b → of-session (object-at p b .kind) ≡ false

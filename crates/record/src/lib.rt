@@ -174,7 +174,7 @@ fn kind_ok(kind: u16, maximum: Length, content: &[u8]) -> bool
     false
 }
 
-// Whether the slots are slots: a loop, so that the check of a slot has one place.
+// Whether the slots are slots: a loop, so that the check of a slot is compiled into it.
 fn slots_ok(part: &[u8]) -> bool
     requires { ⌜ head-size + 1 ≤ length (now part) ⌝ }
     ensures { λ r. ⌜ r ≡ slots-allowed (now (part .entry)) ⌝ }

@@ -1,5 +1,5 @@
 -- `judge::judge_stored` meets its contract.
-use Rattle.judge.proofs.Judging.{stored-judged, own-by, stored-get, fitting-told, stored-write, stored-count, then-later}
+use Rattle.judge.proofs.Judging.{stored-judged, own-by, stored-get, fitting-told, stored-write}
 use Rattle.rules.specs.Chain.{_and-then_}
 use Rattle.rules.specs.Operation.{operation}
 use Rattle.command.proofs.Tests.{steps-not}
@@ -17,4 +17,4 @@ judge-stored-spec = tie.close (tie.spec
     (λ c. search needs) (λ c κs. (search needs, search parts-there)) (λ c. search needs) (λ c κs. (search needs, search parts-there))
     (λ c. search (stored-judged, steps-not, own-by, stored-get)) (λ c. search (stored-judged, steps-not, own-by, fitting-told))
     (λ c. search (stored-judged, steps-not, own-by, stored-write)) (λ c. search (stored-judged, steps-not, own-by, stored-write))
-    (λ c. search (stored-judged, steps-not, own-by, then-later)) (λ c. search (stored-judged, steps-not, own-by, stored-count)))
+    (λ c. search (stored-judged, steps-not, own-by)) (λ c. search (stored-judged, steps-not, own-by)))
