@@ -19,6 +19,8 @@ use Rattle.rules.specs.Access.{seen, seen-in, named}
 use Rattle.laws.proofs.Tests.{some-else}
 use Rattle.laws.proofs.Named.{named-in-store}
 use Rattle.record.specs.Places.{Stored}
+use Rattle.store.specs.Way.{way}
+use Rattle.store.proofs.Ways.{sound-find}
 use Rattle.store.proofs.Placing.{nowhere, finds-it, stored-there}
 use Rattle.judge.specs.declared.Target.the-variants.{InSession, InStore, Nothing}
 use Rattle.judge.specs.Targets.{target-object}
@@ -31,21 +33,24 @@ session-named c b s n k byte w e h f = rw (← e, h, f)
 
 -- a number that is none of them
 module _ (c b : List ℕ) (s : Session) (n : ℕ) (e : n ≡ object-number c) (sound : is-some (unpack b) ≡ true)
-    (g : n ≡ 0xE0C0 → ⊥) (a : n ≡ 0xF1C0 → ⊥) (l : n ≡ 0xF1C2 → ⊥) (r : Found) (f : r ≡ found n (or-else (unpack b) [])) where
+    (g : n ≡ 0xE0C0 → ⊥) (a : n ≡ 0xF1C0 → ⊥) (l : n ≡ 0xF1C2 → ⊥) (r : Found) (on-way : r ≡ found n (way n b)) where
+  in-all : r ≡ found n (or-else (unpack b) [])
+  in-all = sound-find n b sound r on-way
+
   in-store : named (object-number c) (seen-in b s) ≡ find n (or-else (unpack b) [])
   unfolding seen in-session among
   in-store = rw (← e) (named-in-store n (seen-in b s) (rw (ne-eqb n 0xE0C0 g, ne-eqb n 0xF1C0 a, ne-eqb n 0xF1C2 l)))
 
   pub found-named : (p : ℕ) → r ≡ found-at.At p → target-object (InStore p) b ≡ named (object-number c) (seen-in b s)
   unfolding target-object
-  found-named p h = sym (in-store ∙ finds-it n p b (or-else (unpack b) []) (some-else (unpack b) [] sound) (sym f ∙ h))
+  found-named p h = sym (in-store ∙ finds-it n p b (or-else (unpack b) []) (some-else (unpack b) [] sound) (sym in-all ∙ h))
 
   pub found-stored : (p : ℕ) → r ≡ found-at.At p → Stored p b
-  found-stored p h = stored-there n p b (or-else (unpack b) []) (some-else (unpack b) [] sound) (sym f ∙ h)
+  found-stored p h = stored-there n p b (or-else (unpack b) []) (some-else (unpack b) [] sound) (sym in-all ∙ h)
 
   pub found-there : (p : ℕ) → r ≡ found-at.At p → found (object-number c) (or-else (unpack b) []) ≡ found-at.At p
-  found-there p h = cc
+  found-there p h = rw (← e) (sym in-all ∙ h)
 
   pub nothing-named : r ≡ found-at.Nothing → target-object Nothing b ≡ named (object-number c) (seen-in b s)
   unfolding target-object
-  nothing-named h = sym (in-store ∙ nowhere n (or-else (unpack b) []) (sym f ∙ h))
+  nothing-named h = sym (in-store ∙ nowhere n (or-else (unpack b) []) (sym in-all ∙ h))

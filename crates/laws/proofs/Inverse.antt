@@ -2,16 +2,16 @@
 -- these ones alone.
 use Prim.Native.Nat.{ℕ, zero, suc, _+_, _*_, _-_, _/_, _%_, _≤_}
 use mathlib.Core.Bool.{true}
-use mathlib.Core.List.{List, [], _∷_, _++_, append-assoc}
+use mathlib.Core.List.{List, [], _∷_, _++_, append-assoc, append-nil}
 use mathlib.Core.Option.{some}
 use mathlib.Core.Path.{_≡_, refl, sym, ap, ap₂, _∙_}
-use native.Mathlib.Nat.{mod-add-div, not-suc-le-zero, le-of-suc-le-suc}
+use native.Mathlib.Nat.{mod-add-div, zero-add, suc-add}
 use native.Mathlib.Omega.{arith}
 use lib.ListN.{length, length-append, length-replicate, take, drop}
 use lib.Seq.{take-at, drop-at, drop-drop}
 use Rattle.rules.specs.Basic.{zeros, little-endian-at}
 use Rattle.rules.specs.Expression.{Expression, slot-size, expression-bytes, read-expression, expression-allowed-with, expression-allowed}
-use Rattle.rules.specs.Object.{Object, used, kind-number, read-kind, object-allowed-with, all-allowed-with}
+use Rattle.rules.specs.Object.{Object, used, kind-number, read-kind, object-allowed-with, all-allowed-with, all-allowed}
 use Rattle.rules.specs.Layout.{record-size-with, objects-allowed-with, slot-of-with, record-bytes-with, pack-with, read-slot, read-record-with, read-records-with, unpack-with}
 use Rattle.rules.specs.Layout.{slot, record-size, record-bytes, read-record, pack, unpack, objects-allowed}
 use Rattle.laws.proofs.Tests.{and-left, and-right, same-refl, read-checked}
@@ -82,16 +82,35 @@ module _ (slot : ℕ) (l : 2 ≤ slot) where
 
   -- all records -------------------------------------------------------------------------------------------------------
 
-  pub records-read-with : (n : ℕ) (os : List Object) → length os ≤ n → all-allowed-with slot os ≡ true → read-records-with slot n (pack-with slot os) ≡ os
-  unfolding pack-with all-allowed-with read-records-with record-bytes-with little-endian-at
-  records-read-with zero [] l h = refl
-  records-read-with (suc n) [] l h = refl
-  records-read-with zero (o ∷ os) l h = absurd (not-suc-le-zero l)
-  records-read-with (suc n) (o ∷ os) l h =
+  -- the first record is read, and then what follows it
+  record-first : (n : ℕ) (o : Object) (r : List ℕ) → AllowedWith slot o →
+      read-records-with slot (suc n) (record-bytes-with slot o ++ r) ≡ o ∷ read-records-with slot n r
+  unfolding read-records-with record-bytes-with little-endian-at
+  record-first n o r a =
+      let behind = drop-at (record-bytes-with slot o) r (record-size-with slot o) (record-length-with o a) in
+      rw (record-read-with o r a, two-bytes (record-size-with slot o), behind)
+
+  -- the records of a packing are read, and then what follows it
+  pub records-then-with : (n : ℕ) (os : List Object) (r : List ℕ) → all-allowed-with slot os ≡ true →
+      read-records-with slot (length os + n) (pack-with slot os ++ r) ≡ os ++ read-records-with slot n r
+  unfolding pack-with all-allowed-with
+  records-then-with n [] r h = rw zero-add
+  records-then-with n (o ∷ os) r h =
       let a = allowed-with slot o (and-left (object-allowed-with slot o) _ h) in
-      let first = record-read-with o (pack-with slot os) a in
-      let behind = drop-at (record-bytes-with slot o) (pack-with slot os) (record-size-with slot o) (record-length-with o a) in
-      rw (first, two-bytes (record-size-with slot o), behind, records-read-with n os (le-of-suc-le-suc l) (and-right (object-allowed-with slot o) _ h))
+      let rest = records-then-with n os r (and-right (object-allowed-with slot o) _ h) in
+      rw (append-assoc, suc-add) (record-first (length os + n) o (pack-with slot os ++ r) a ∙ ap (λ x. o ∷ x) rest)
+
+  -- no bytes, no records
+  pub nothing-read-with : (n : ℕ) → read-records-with slot n [] ≡ []
+  unfolding read-records-with
+  nothing-read-with zero = refl
+  nothing-read-with (suc n) = refl
+
+  pub records-read-with : (n : ℕ) (os : List Object) → length os ≤ n → all-allowed-with slot os ≡ true → read-records-with slot n (pack-with slot os) ≡ os
+  records-read-with n os l h =
+      let count : n ≡ length os + (n - length os) = omega arith in
+      rw (← append-nil (pack-with slot os), count)
+      (records-then-with (n - length os) os [] h ∙ ap (λ ps. os ++ ps) (nothing-read-with (n - length os)) ∙ append-nil os)
 
   -- the two theorems --------------------------------------------------------------------------------------------------
 
@@ -101,6 +120,12 @@ module _ (slot : ℕ) (l : 2 ≤ slot) where
   unpack-pack-with os h =
       let a = all-allowed-with-facts slot os h in
       rw (records-read-with 32 os (a .count) (a .each), h, same-refl (pack-with slot os))
+
+  -- objects with the same packing are the same
+  pub pack-same-with : (os ps : List Object) → all-allowed-with slot os ≡ true → all-allowed-with slot ps ≡ true → pack-with slot os ≡ pack-with slot ps → os ≡ ps
+  pack-same-with os ps h k e =
+      let n = length os + length ps in
+      sym (records-read-with n os (omega arith) h) ∙ ap (read-records-with slot n) e ∙ records-read-with n ps (omega arith) k
 
   -- a store that is read is the packing of what is read, which is allowed
   pub pack-unpack-with : (b : List ℕ) (os : List Object) → unpack-with slot b ≡ some os → (pack-with slot os ≡ b) × (objects-allowed-with slot os ≡ true)
@@ -123,6 +148,16 @@ record-read = record-read-with slot-size (omega arith)
 
 pub unpack-pack : (os : List Object) → objects-allowed os ≡ true → unpack (pack os) ≡ some os
 unpack-pack = unpack-pack-with slot-size (omega arith)
+
+pub records-then : (n : ℕ) (os : List Object) (r : List ℕ) → all-allowed os ≡ true →
+    read-records-with slot-size (length os + n) (pack os ++ r) ≡ os ++ read-records-with slot-size n r
+records-then = records-then-with slot-size (omega arith)
+
+pub nothing-read : (n : ℕ) → read-records-with slot-size n [] ≡ []
+nothing-read = nothing-read-with slot-size (omega arith)
+
+pub pack-same : (os ps : List Object) → all-allowed os ≡ true → all-allowed ps ≡ true → pack os ≡ pack ps → os ≡ ps
+pack-same = pack-same-with slot-size (omega arith)
 
 pub pack-unpack : (b : List ℕ) (os : List Object) → unpack b ≡ some os → (pack os ≡ b) × (objects-allowed os ≡ true)
 pack-unpack = pack-unpack-with slot-size (omega arith)

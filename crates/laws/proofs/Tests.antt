@@ -40,6 +40,11 @@ pub if-by : {A : Type 0} (P : A → Type 0) (t : Bool) (a b : A) → (t ≡ true
 if-by P true a b p q = p refl
 if-by P false a b p q = q refl
 
+-- by a test's two answers
+pub by-test : {A : Type 0} (t : Bool) → (t ≡ true → A) → (t ≡ false → A) → A
+by-test true p q = p refl
+by-test false p q = q refl
+
 pub some-else : {A : Type 0} (m : Option A) (d : A) → is-some m ≡ true → m ≡ some (or-else m d)
 some-else none d h = absurd (false≢true h)
 some-else (some a) d h = refl

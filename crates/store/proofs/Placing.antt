@@ -3,19 +3,18 @@
 use Prim.Native.Nat.{ℕ, _+_}
 use mathlib.Core.Path.{_≡_, refl, sym, ap, _∙_}
 use mathlib.Core.List.{List, [], _∷_, _++_}
-use mathlib.Core.Bool.{Bool, true, false}
+use mathlib.Core.Bool.{true}
 use mathlib.Core.Option.{none, some}
 use native.Mathlib.Omega.{arith}
 use lib.Dec.{eqb}
 use lib.ListN.{length, drop, length-append}
 use lib.Seq.{drop-at}
 use Rattle.rules.specs.declared.Found.the-variants.{At, Nothing}
-use Rattle.rules.specs.Basic.{if_then_else_}
 use Rattle.rules.specs.Object.{Object, object-allowed, all-allowed, all-allowed-with}
 use Rattle.rules.specs.Layout.{record-size, record-bytes, pack, unpack, pack-with}
 use Rattle.rules.specs.Layout.{find, replaced, found-behind, found}
 use Rattle.laws.proofs.Facts.{allowed, AllAllowed, all-allowed-facts}
-use Rattle.laws.proofs.Tests.{and-left, and-right}
+use Rattle.laws.proofs.Tests.{by-test, and-left, and-right}
 use Rattle.laws.proofs.Inverse.{record-length, pack-unpack}
 use Rattle.laws.proofs.Places.{pack-append, replaced-bytes}
 use Rattle.primitives.specs.Bytes.{over}
@@ -26,12 +25,10 @@ use Rattle.record.proofs.Standing.{object-here, stands-here, stored-facts}
 none-behind : (q n : ℕ) (os : List Object) → found-behind q n os ≡ Nothing → find n os ≡ none
 unfolding found-behind find
 none-behind q n [] e = refl
-none-behind q n (o ∷ os) e = go (eqb n (o .number)) refl e (none-behind (q + record-size o) n os)
-  where
-    go : (t : Bool) → eqb n (o .number) ≡ t → (if t then At q else found-behind (q + record-size o) n os) ≡ Nothing →
-        (found-behind (q + record-size o) n os ≡ Nothing → find n os ≡ none) → find n (o ∷ os) ≡ none
-    go true t e later = let z : _≡_ {A = ℕ} 0 1 = cc in absurd (omega arith)
-    go false t e later = rw t (later e)
+none-behind q n (o ∷ os) e =
+    by-test (eqb n (o .number))
+    (λ t. let z : At q ≡ Nothing = rw t at e in let z : _≡_ {A = ℕ} 0 1 = cc in absurd (omega arith))
+    (λ t. rw t (none-behind (q + record-size o) n os (rw t at e)))
 
 pub nowhere : (n : ℕ) (os : List Object) → found n os ≡ Nothing → find n os ≡ none
 unfolding found
@@ -50,25 +47,24 @@ record Lies (q n p : ℕ) (os : List Object) : Type 0 where
 lies-behind : (q n p : ℕ) (os : List Object) → all-allowed os ≡ true → found-behind q n os ≡ At p → Lies q n p os
 unfolding found-behind find pack-with all-allowed-with
 lies-behind q n p [] k e = let z : _≡_ {A = ℕ} 0 1 = cc in absurd (omega arith)
-lies-behind q n p (o ∷ os) k e = go (eqb n (o .number)) refl e (lies-behind (q + record-size o) n p os (and-right (object-allowed o) (all-allowed os) k))
-  where
-    ok : object-allowed o ≡ true
-    ok = and-left (object-allowed o) (all-allowed os) k
-
-    go : (t : Bool) → eqb n (o .number) ≡ t → (if t then At q else found-behind (q + record-size o) n os) ≡ At p →
-        (found-behind (q + record-size o) n os ≡ At p → Lies (q + record-size o) n p os) → Lies q n p (o ∷ os)
-    go true t e later = let r : q ≡ p = cc in record { before = []; object = o; after = os; split = refl; finds = rw t; spot = omega arith; ok = ok }
-    go false t e later =
-        let l = later e in
-        record {
-          before = o ∷ l .before;
-          object = l .object;
-          after = l .after;
-          split = ap (λ x. o ∷ x) (l .split);
-          finds = rw t (l .finds);
-          spot = omega (arith, l .spot, length-append (record-bytes o) (pack (l .before)), record-length o (allowed o ok));
-          ok = l .ok;
-        }
+lies-behind q n p (o ∷ os) k e =
+    let ok = and-left (object-allowed o) (all-allowed os) k in
+    by-test (eqb n (o .number))
+    (λ t.
+    let here : At q ≡ At p = rw t at e in
+    let same : q ≡ p = cc in
+    record { before = []; object = o; after = os; split = refl; finds = rw t; spot = omega arith; ok = ok })
+    (λ t.
+    let l = lies-behind (q + record-size o) n p os (and-right (object-allowed o) (all-allowed os) k) (rw t at e) in
+    record {
+      before = o ∷ l .before;
+      object = l .object;
+      after = l .after;
+      split = ap (λ x. o ∷ x) (l .split);
+      finds = rw t (l .finds);
+      spot = omega (arith, l .spot, length-append (record-bytes o) (pack (l .before)), record-length o (allowed o ok));
+      ok = l .ok;
+    })
 
 module _ (n p : ℕ) (b : List ℕ) (os : List Object) (u : unpack b ≡ some os) (e : found n os ≡ At p) where
   facts : AllAllowed os
