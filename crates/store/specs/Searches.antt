@@ -12,21 +12,21 @@ use Rattle.rules.specs.Stores.{by-hand, first-record, second-record, third-reco
 use Rattle.rules.specs.Layout.{found}
 use Rattle.store.specs.Way.{reaches, way, front, leads}
 
-same-find : Found → Found → Bool
-same-find (At p) (At q) = eqb p q
-same-find (At p) Nothing = false
-same-find Nothing (At q) = false
-same-find Nothing Nothing = true
+same-found : Found → Found → Bool
+same-found (At p) (At q) = eqb p q
+same-found (At p) Nothing = false
+same-found Nothing (At q) = false
+same-found Nothing Nothing = true
 
 -- the way to n in b is sound, reaches n and has so many bytes, and this is found on it
 unfoldable finds : ℕ → List ℕ → ℕ → Found → Bool
-unfolding same-find
-finds n b size r = all (leads n b ∷ reaches n (way n b) ∷ eqb (length (front n b)) size ∷ same-find (found n (way n b)) r ∷ [])
+unfolding same-found
+finds n b size r = all (leads n b ∷ reaches n (way n b) ∷ eqb (length (front n b)) size ∷ same-found (found n (way n b)) r ∷ [])
 
 -- it is sound and the whole of b, and nothing is found on it
 unfoldable ends : ℕ → List ℕ → Bool
-unfolding same-find
-ends n b = all (leads n b ∷ not (reaches n (way n b)) ∷ same (front n b) b ∷ same-find (found n (way n b)) Nothing ∷ [])
+unfolding same-found
+ends n b = all (leads n b ∷ not (reaches n (way n b)) ∷ same (front n b) b ∷ same-found (found n (way n b)) Nothing ∷ [])
 
 -- it is not sound
 unfoldable lost : ℕ → List ℕ → Bool
