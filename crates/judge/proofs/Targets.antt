@@ -34,6 +34,7 @@ session-named c b s n k byte w e h f = rw (← e, h, f)
 -- a number that is none of them
 module _ (c b : List ℕ) (s : Session) (n : ℕ) (e : n ≡ object-number c) (sound : is-some (unpack b) ≡ true)
     (g : n ≡ 0xE0C0 → ⊥) (a : n ≡ 0xF1C0 → ⊥) (l : n ≡ 0xF1C2 → ⊥) (r : Found) (on-way : r ≡ found n (way n b)) where
+  -- found on the way, and so in the store
   in-all : r ≡ found n (or-else (unpack b) [])
   in-all = sound-find n b sound r on-way
 

@@ -29,14 +29,18 @@ module _ (n : ℕ) where
     pub rest : List ℕ
     pub bytes : b ≡ pack (way-in k b) ++ rest
 
-  pub leads-facts : (b : List ℕ) → leads n b ≡ true → Leads (length b) b
-  unfolding leads way
-  leads-facts b h =
-      record {
-        allowed = and-left (all-allowed (way n b)) _ h;
-        rest = drop (size (way n b)) b;
-        bytes = rw (same-eq (pack (way n b)) (front n b) (and-right (all-allowed (way n b)) _ h)) (sym (take-append-drop (size (way n b)) b));
-      }
+  module _ (b : List ℕ) (h : leads n b ≡ true) where
+    pub way-allowed : all-allowed (way n b) ≡ true
+    unfolding leads
+    way-allowed = and-left (all-allowed (way n b)) _ h
+
+    pub front-packed : pack (way n b) ≡ front n b
+    unfolding leads
+    front-packed = same-eq (pack (way n b)) (front n b) (and-right (all-allowed (way n b)) _ h)
+
+    pub leads-facts : Leads (length b) b
+    unfolding way
+    leads-facts = record { allowed = way-allowed; rest = drop (size (way n b)) b; bytes = rw front-packed (sym (take-append-drop (size (way n b)) b)) }
 
   -- the first record on it, which is that of o, and the way behind it
   pub record First (k : ℕ) (b : List ℕ) (o : Object) : Type 0 where

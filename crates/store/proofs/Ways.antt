@@ -14,12 +14,12 @@ use Rattle.rules.specs.declared.Found.the-variants.{At, Nothing}
 use Rattle.rules.specs.Basic.{if_then_else_, is-some, or-else, rising-from, rising}
 use Rattle.rules.specs.Object.{Object, object-allowed, all-allowed, all-allowed-with}
 use Rattle.rules.specs.Layout.{slot-size, record-size, record-bytes, size, objects-allowed, pack, unpack, read-record, read-records-with, pack-with, size-with, found-behind, found}
-use Rattle.laws.proofs.Tests.{by-test, and-left, and-right, or-left, or-right, same-refl, same-eq, some-else}
+use Rattle.laws.proofs.Tests.{by-test, and-left, and-right, or-left, or-right, same-refl, some-else}
 use Rattle.laws.proofs.Facts.{allowed, numbers, all-allowed-facts}
 use Rattle.laws.proofs.Inverse.{record-length, records-then, nothing-read, pack-same, pack-unpack}
 use Rattle.laws.proofs.Places.{pack-append, pack-length}
 use Rattle.store.specs.Way.{up-to, reaches, way, front, leads}
-use Rattle.store.proofs.Search.{way-in, Leads, leads-facts, first}
+use Rattle.store.proofs.Search.{way-in, Leads, way-allowed, front-packed, leads-facts, first}
 
 -- objects up to the first at or above n ------------------------------------------------------------------------------------
 
@@ -78,13 +78,13 @@ module _ (n : ℕ) where
 
 -- the way in a packing, and in what begins with one ------------------------------------------------------------------------
 
--- the way in b is that among os
+-- the way in b is sound, and has the objects os up to the first numbered at or above n
 pub record Led (n : ℕ) (os : List Object) (b : List ℕ) : Type 0 where
   pub sound : leads n b ≡ true
   pub same : way n b ≡ up-to n os
   pub bytes : front n b ≡ pack (up-to n os)
 
--- there are fewer objects than bytes
+-- there are no more objects than bytes
 few : (os : List Object) → length os ≤ size os
 unfolding size-with
 few [] = omega arith
@@ -138,21 +138,14 @@ module _ (n : ℕ) (b : List ℕ) (h : is-some (unpack b) ≡ true) where
 
 -- what follows the way does not matter -------------------------------------------------------------------------------------
 
-module _ (n : ℕ) (b : List ℕ) (h : leads n b ≡ true) where
-  way-allowed : all-allowed (way n b) ≡ true
-  unfolding leads
-  way-allowed = and-left (all-allowed (way n b)) _ h
-
-  front-packed : pack (way n b) ≡ front n b
-  unfolding leads
-  front-packed = same-eq (pack (way n b)) (front n b) (and-right (all-allowed (way n b)) _ h)
-
-  -- whatever follows the way: it leads there, and up to the same place
-  pub whatever-follows : reaches n (way n b) ≡ true → (x : List ℕ) → (leads n (front n b ++ x) ≡ true) × (front n (front n b ++ x) ≡ front n b)
-  unfolding way
-  whatever-follows r x =
-      let l = rw front-packed at (led-there n (way n b) way-allowed r x) in
-      (l .sound, l .bytes ∙ ap pack (up-to-again n _) ∙ front-packed)
+-- whatever follows the way: it leads there, and up to the same place
+pub whatever-follows : (n : ℕ) (b : List ℕ) → leads n b ≡ true → reaches n (way n b) ≡ true → (x : List ℕ) →
+    (leads n (front n b ++ x) ≡ true) × (front n (front n b ++ x) ≡ front n b)
+unfolding way
+whatever-follows n b h r x =
+    let packed = front-packed n b h in
+    let l = rw packed at (led-there n (way n b) (way-allowed n b h) r x) in
+    (l .sound, l .bytes ∙ ap pack (up-to-again n _) ∙ packed)
 
 -- two searches whose ways are the same bytes find the same
 pub same-find : (n : ℕ) (a b : List ℕ) (r r′ : Found) → leads n a ≡ true → leads n b ≡ true → r ≡ found n (way n a) → r′ ≡ found n (way n b) →

@@ -36,11 +36,11 @@ lost n b = not (leads n b)
 unfoldable overfull : List ℕ
 overfull = by-hand (hex "64 00 01 00 D0 F1 04 00 05 00 01 00") "01 00" "01 00" "01 00" (hex "0A 0B 0C 0D")
 
-unfoldable of-session : List ℕ
-of-session = by-hand (hex "64 00 01 00 C0 F1 04 00 03 00 01 00") "01 00" "01 00" "01 00" (hex "0A 0B 0C 00")
+unfoldable session-numbered : List ℕ
+session-numbered = by-hand (hex "64 00 01 00 C0 F1 04 00 03 00 01 00") "01 00" "01 00" "01 00" (hex "0A 0B 0C 00")
 
 unfoldable pub searches : List Bool
-unfolding finds ends lost overfull of-session
+unfolding finds ends lost overfull session-numbered
 searches =
     -- an object that is there: the first, the middle one, the last
     finds 0xF1D0 three 100 (At 0) ∷ finds 0xF1D1 three 200 (At 100) ∷ finds 0xF1D2 three 300 (At 200) ∷
@@ -50,10 +50,10 @@ searches =
     finds 0xF1D0 (first-record ++ take 50 second-record) 100 (At 0) ∷ finds 0xF1D1 (first-record ++ second-record ++ hex "FF FF FF") 200 (At 100) ∷
     finds 0xF1D1 (first-record ++ second-record ++ second-record) 200 (At 100) ∷ finds 0xF1CF (first-record ++ hex "00") 100 Nothing ∷
     finds 0xF1D0 (second-record ++ first-record) 100 Nothing ∷
-    -- neither the count of records nor the size of the store is asked, nor that there is one
+    -- neither the count of records nor the size of the store is asked, nor that there is a record
     finds 0x0020 (many smallest 33 0) 3201 (At 3104) ∷ finds 0x000B (many largest 11 1) 17556 (At 15960) ∷ ends 0xF1D0 [] ∷
     -- nor that numbers rise
     finds 0xF1D2 (second-record ++ first-record ++ third-record) 300 (At 200) ∷
     -- what stands on the way must be records of allowed objects
     lost 0xF1D2 (first-record ++ second-record ++ hex "FF FF FF") ∷ lost 0xF1D0 (hex "00" ++ three) ∷ lost 0xF1D0 (take 99 first-record) ∷
-    lost 0xF1D0 overfull ∷ lost 0xF1D1 (overfull ++ second-record) ∷ lost 0xF1D0 (of-session ++ first-record) ∷ []
+    lost 0xF1D0 overfull ∷ lost 0xF1D1 (overfull ++ second-record) ∷ lost 0xF1D0 (session-numbered ++ first-record) ∷ []
