@@ -16,6 +16,7 @@ pub type List = Vec<(Vec<u8>, usize)>;
 #[derive(Clone, Copy, Debug, PartialEq, Eq)]
 pub enum Kind {
     Get(usize, usize),
+    GetShortened,
     GetSession,
     GetMetadata,
     Write(u8, usize, usize),
@@ -67,10 +68,11 @@ const fn refusal(name: &'static str, kind: Kind, code: u8) -> Row {
     Row { name, kind, code }
 }
 
-pub const ROWS: [Row; 41] = [
+pub const ROWS: [Row; 42] = [
     done("get data, 0 to 16 bytes", Kind::Get(0, 16)),
     done("get data, 17 to 140 bytes", Kind::Get(17, 140)),
     done("get data, 141 to 1,500 bytes", Kind::Get(141, LARGEST)),
+    done("get data, length past used", Kind::GetShortened),
     done("get data, object of the session", Kind::GetSession),
     done("get metadata", Kind::GetMetadata),
     done("write, 1 to 16 bytes", Kind::Write(0x00, 1, 16)),
@@ -272,6 +274,10 @@ fn make(kind: Kind, begin: &Beginning, random: &mut Random, turn: usize) -> (Vec
             let length = random.between(low, high);
             get_data(holding(&begin.read, length, random), length, random)
         }
+        Kind::GetShortened => {
+            let read = random.pick(&begin.read);
+            get(read.number, random.between(0, read.used), read.used + 1)
+        }
         Kind::GetSession => get(session_number(random), 0, 1),
         Kind::GetMetadata => framed(0x01, 0x01, &writable.to_be_bytes()),
         Kind::Write(param, low, high) => {
@@ -327,7 +333,7 @@ fn refused(kind: Kind, begin: &Beginning, random: &mut Random) -> Vec<u8> {
         },
         Kind::CountData => count(written.number, 0, random),
         Kind::CountState => count(random.pick(&[0xE0C0, 0xF1C0]), 0, random),
-        Kind::PastUsed => get(read.number, random.between(0, read.used), read.used + 1),
+        Kind::PastUsed => get(read.number, read.used + 1, random.below(17)),
         Kind::PastMaximum => set(0x00, written.number, written.maximum, &[0x00]),
         Kind::PartOfCounter => {
             let part = random.bytes(counter::SIZE - 1);

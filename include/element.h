@@ -29,8 +29,8 @@ extern "C" {
  * The version of this interface: it changes with the interface. The minor number rises where something is added, the major number where a host
  * that was written for the version before may have to be changed.
  */
-#define ELEMENT_VERSION_MAJOR 1
-#define ELEMENT_VERSION_MINOR 1
+#define ELEMENT_VERSION_MAJOR 2
+#define ELEMENT_VERSION_MINOR 0
 
 /* Outcome numbers: what a call returns. */
 enum {
@@ -57,7 +57,7 @@ enum {
     ELEMENT_INVALID_DATA = 0x05,       /* metadata, life cycle value or application identifier not allowed */
     ELEMENT_INTERNAL_ERROR = 0x06,     /* the store is malformed, or LcsG or LcsA is no state */
     ELEMENT_ACCESS_DENIED = 0x07,      /* the access condition does not hold */
-    ELEMENT_BOUNDARY_EXCEEDED = 0x08,  /* past used (get); past the maximum, or not all of a counter (write); at the threshold, or offset not 0 (count) */
+    ELEMENT_BOUNDARY_EXCEEDED = 0x08,  /* offset past used (get); past the maximum, or not all of a counter (write); at the threshold, or offset not 0 (count) */
     ELEMENT_INVALID_COMMAND = 0x0A,    /* unknown Cmd */
     ELEMENT_NOT_AVAILABLE = 0x0C,      /* the application is closed, or terminated */
     ELEMENT_INSUFFICIENT_BUFFER = 0x0D /* the response does not fit the room */
@@ -76,7 +76,7 @@ enum {
  * bytes; Cmd and Param are hex.
  *
  *   Cmd       Param                InLen      InData                                    OutData of the response
- *   01 get    00 data              6          object 2, offset 2, length 2              length bytes of data
+ *   01 get    00 data              6          object 2, offset 2, length 2              up to length bytes of data
  *   01 get    01 metadata          2          object 2                                  20, L, then L bytes of fields
  *   02 set    00 write             5 or more  object 2, offset 2, one byte or more      none
  *   02 set    40 erase and write   5 or more  object 2, offset 2, one byte or more      none
@@ -84,6 +84,9 @@ enum {
  *   02 set    02 count             5          object 2, offset 2 (0), step 1            none
  *   70 open   00                   16         ELEMENT_IDENTIFIER                        none
  *   71 close  00                   0          none                                      none
+ *
+ * A get of data answers the bytes in use from offset on, at most length of them, and OutLen says how many: they may be fewer than length. With
+ * offset equal to used there are none; an offset past used is refused with 08.
  *
  * With ELEMENT_FLUSH set in Cmd, the last error becomes 0 first.
  */
@@ -99,11 +102,14 @@ enum {
     ELEMENT_ERASE_AND_WRITE = 0x40 /* set */
 };
 
+/* A length of a get of data that asks for all that is in use from the offset on. */
+enum { ELEMENT_WHOLE = 0xFFFF };
+
 /* The identifier that opens the application. */
 #define ELEMENT_IDENTIFIER "\xD2\x76\x00\x00\x04GenAuthAppl"
 enum { ELEMENT_IDENTIFIER_SIZE = 16 };
 
-/* The objects that live in the session. */
+/* The objects that live in the session, one byte each. A get that answers the byte of the last error sets it to 0. */
 enum {
     ELEMENT_LCSG = 0xE0C0,
     ELEMENT_LCSA = 0xF1C0,

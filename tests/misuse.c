@@ -1,6 +1,6 @@
 /*
  * Every misuse of the C interface that its types allow, each with the answer that include/element.h and docs/FORMATS.md give, written by hand;
- * then the header's helpers and constants, and counters.
+ * then the header's helpers and constants, short reads, and counters.
  * Prints the number of checks; at the first that fails, what was expected, and exits 1.
  *
  *   gcc -std=c99 -O2 -Iinclude tests/misuse.c target/staticlib/libfirmware.a -o misuse
@@ -41,7 +41,9 @@ static const uint8_t FLUSHED_NO_OBJECT[] = {0x81, 0x01, 0x00, 0x02, 0x12, 0x34};
 static const uint8_t READ_ERROR[] = {0x01, 0x00, 0x00, 0x06, 0xF1, 0xC2, 0x00, 0x00, 0x00, 0x01};
 static const uint8_t WRITE[] = {0x02, 0x00, 0x00, 0x06, 0xF1, 0xD0, 0x00, 0x00, 0xAB, 0xCD};
 static const uint8_t WRITE_PAST[] = {0x02, 0x00, 0x00, 0x06, 0xF1, 0xD0, 0x00, 0x8B, 0xAB, 0xCD};
+static const uint8_t READ_PAST[] = {0x01, 0x00, 0x00, 0x06, 0xF1, 0xD0, 0x00, 0x01, 0x00, 0x00};
 static const uint8_t READ_BACK[] = {0x01, 0x00, 0x00, 0x06, 0xF1, 0xD0, 0x00, 0x00, 0x00, 0x02};
+static const uint8_t READ_ALL[] = {0x01, 0x00, 0x00, 0x06, 0xF1, 0xD0, 0x00, 0x00, 0xFF, 0xFF};
 
 /* The answers. */
 static const uint8_t DONE[] = {0x00, 0x00, 0x00, 0x00};
@@ -325,6 +327,7 @@ static void check_own_numbers(void)
     check_own_number(ELEMENT_INTERNAL_ERROR, METADATA, sizeof METADATA, ROOM, 1, 2);
     check_own_number(ELEMENT_ACCESS_DENIED, write_error, sizeof write_error, ROOM, 1, 1);
     check_own_number(ELEMENT_BOUNDARY_EXCEEDED, WRITE_PAST, sizeof WRITE_PAST, ROOM, 1, 1);
+    check_own_number(ELEMENT_BOUNDARY_EXCEEDED, READ_PAST, sizeof READ_PAST, ROOM, 1, 1);
     check_own_number(ELEMENT_INVALID_COMMAND, no_cmd, sizeof no_cmd, ROOM, 1, 1);
     check_own_number(ELEMENT_NOT_AVAILABLE, METADATA, sizeof METADATA, ROOM, 0x2A, ELEMENT_TERMINATION);
     check_own_number(ELEMENT_NOT_AVAILABLE, CLOSE, sizeof CLOSE, ROOM, 0, 1);
@@ -360,7 +363,8 @@ static void check_constants(void)
         ELEMENT_ALWAYS, ELEMENT_CONDITION_LCSG, ELEMENT_CONDITION_LCSA, ELEMENT_CONDITION_LCSO, ELEMENT_EQUAL, ELEMENT_GREATER, ELEMENT_LESS,
         ELEMENT_AND, ELEMENT_OR, ELEMENT_NEVER
     };
-    expect(ELEMENT_VERSION_MAJOR == 1 && ELEMENT_VERSION_MINOR == 1, "version 1.1");
+    expect(ELEMENT_VERSION_MAJOR == 2 && ELEMENT_VERSION_MINOR == 0, "version 2.0");
+    expect(ELEMENT_WHOLE == 0xFFFF, "the length that asks for all");
     expect(ELEMENT_KIND_DATA == 1 && ELEMENT_KIND_COUNTER_UP == 2 && ELEMENT_KIND_COUNTER_DOWN == 4, "the kinds of records");
     expect(ELEMENT_COUNT == 2 && ELEMENT_COUNTER_SIZE == 8, "the Param of a count and the size of a counter");
     expect(memcmp(tags, "\x20\xC0\xC4\xC5\xD0\xD1\xD3", sizeof tags) == 0, "the metadata tags");
@@ -517,6 +521,146 @@ static void check_large_room(void)
     while (at < sizeof room && room[at] == FILL)
         at++;
     expect(at == sizeof room, "byte %zu of a room of 70,000 untouched", at);
+}
+
+/* Reads of F1D0 with the three bytes 0A 0B 0C in use: what is there from the offset on, at most the length. */
+
+typedef struct reading {
+    unsigned offset, length;
+    uint8_t answer[8]; /* by hand */
+    size_t size;       /* 4 and OutLen; 0 for refusal 08 */
+} reading;
+
+static const reading READINGS[] = {
+    {0, 0, {0, 0, 0, 0}, 4},
+    {0, 1, {0, 0, 0, 1, 0x0A}, 5},
+    {0, 2, {0, 0, 0, 2, 0x0A, 0x0B}, 6},
+    {0, 3, {0, 0, 0, 3, 0x0A, 0x0B, 0x0C}, 7},
+    {0, 4, {0, 0, 0, 3, 0x0A, 0x0B, 0x0C}, 7},
+    {0, 140, {0, 0, 0, 3, 0x0A, 0x0B, 0x0C}, 7},
+    {0, 141, {0, 0, 0, 3, 0x0A, 0x0B, 0x0C}, 7},
+    {0, ELEMENT_WHOLE, {0, 0, 0, 3, 0x0A, 0x0B, 0x0C}, 7},
+    {1, ELEMENT_WHOLE, {0, 0, 0, 2, 0x0B, 0x0C}, 6},
+    {2, 0, {0, 0, 0, 0}, 4},
+    {2, 1, {0, 0, 0, 1, 0x0C}, 5},
+    {2, 2, {0, 0, 0, 1, 0x0C}, 5},
+    {2, 0xFFFD, {0, 0, 0, 1, 0x0C}, 5},
+    {2, 0xFFFE, {0, 0, 0, 1, 0x0C}, 5}, /* the sum is 65,536 */
+    {2, ELEMENT_WHOLE, {0, 0, 0, 1, 0x0C}, 5},
+    {3, 0, {0, 0, 0, 0}, 4},
+    {3, 1, {0, 0, 0, 0}, 4},
+    {3, ELEMENT_WHOLE, {0, 0, 0, 0}, 4},
+    {4, 0, {0}, 0},
+    {4, 1, {0}, 0},
+    {4, ELEMENT_WHOLE, {0}, 0},
+    {140, 0, {0}, 0},
+    {0xFFFF, 0, {0}, 0},
+    {0xFFFF, 1, {0}, 0},
+    {0xFFFF, ELEMENT_WHOLE, {0}, 0}
+};
+
+static void begin_three(void)
+{
+    static const uint8_t three[] = {0x02, 0x00, 0x00, 0x07, 0xF1, 0xD0, 0x00, 0x00, 0x0A, 0x0B, 0x0C};
+    begin_open();
+    expect(execute(three, sizeof three, ROOM) == 0 && now.room[0] == 0, "three bytes written");
+    memset(now.room, FILL, ROOM);
+    was = now;
+}
+
+static uint8_t read_in(unsigned object, unsigned offset, unsigned length, size_t room)
+{
+    const uint8_t command[] = {
+        ELEMENT_GET, ELEMENT_DATA, 0x00, 0x06, (uint8_t)(object >> 8), (uint8_t)object, (uint8_t)(offset >> 8), (uint8_t)offset,
+        (uint8_t)(length >> 8), (uint8_t)length
+    };
+    return execute(command, sizeof command, room);
+}
+
+/* In each room from 4 bytes on: 08 in all of them, or 0D up to the answer's own size and the answer from there on, the bytes behind it untouched. */
+static void check_reading(const reading *r)
+{
+    for (size_t room = ELEMENT_LEAST_ROOM; room <= 12; room++) {
+        begin_three();
+        expect(read_in(0xF1D0, r->offset, r->length, room) == 0, "outcome 0 for %u bytes at %u in a room of %zu", r->length, r->offset, room);
+        if (r->size == 0)
+            expect(refused(0x08), "refusal 08 for %u bytes at %u in a room of %zu", r->length, r->offset, room);
+        else if (room < r->size)
+            expect(refused(0x0D), "refusal 0D for %u bytes at %u in a room of %zu", r->length, r->offset, room);
+        else
+            expect(left(r->answer, r->size, 1, OLD_ERROR), "%zu bytes for %u at %u in a room of %zu, and nothing behind them",
+                r->size - ELEMENT_HEADER, r->length, r->offset, room);
+    }
+    begin_three();
+    expect(read_in(0xF1D0, r->offset, r->length, 3) == 1 && unchanged(), "outcome 1 for %u bytes at %u in a room of 3", r->length, r->offset);
+}
+
+static void check_short_reads(void)
+{
+    for (size_t i = 0; i < sizeof READINGS / sizeof READINGS[0]; i++)
+        check_reading(&READINGS[i]);
+
+    begin_open();
+    expect(read_in(0xF1D1, 0, ELEMENT_WHOLE, 4) == 0 && left(DONE, sizeof DONE, 1, OLD_ERROR), "no data of an empty object in a room of 4");
+    begin_open();
+    expect(read_in(0xF1D1, 1, 0, 4) == 0 && refused(0x08), "refusal 08 at offset 1 of an empty object");
+    begin_open();
+    now.store[40 + 1] = was.store[40 + 1] = ELEMENT_NEVER;
+    expect(read_in(0xF1D0, 1, ELEMENT_WHOLE, 4) == 0 && refused(0x07), "refusal 07 for the read expression before 08 for the offset");
+}
+
+/* The largest answer, by a length past it: it fills the largest room, and does not fit one of a byte less. */
+static void check_largest_read(void)
+{
+    static const uint8_t get[] = {ELEMENT_GET, ELEMENT_DATA, 0x00, 0x06, 0xF1, 0xE0, 0x00, 0x00, ELEMENT_WHOLE >> 8, ELEMENT_WHOLE & 0xFF};
+    static uint8_t room[ELEMENT_LARGEST_ROOM + 1];
+    const size_t record = 2832;
+    begin_open();
+    now.store[record + 8] = (uint8_t)ELEMENT_LARGEST_OBJECT;
+    now.store[record + 9] = ELEMENT_LARGEST_OBJECT >> 8;
+    memset(now.store + record + ELEMENT_RECORD_HEAD, 0xC3, ELEMENT_LARGEST_OBJECT);
+    was = now;
+    memset(room, FILL, sizeof room);
+    expect(element_execute(get, sizeof get, now.store, STORE, &now.session, room, ELEMENT_LARGEST_ROOM) == 0 && unchanged(),
+        "outcome 0 for all of F1E0 in a room of 1,504");
+    expect(room[0] == 0 && room[1] == 0 && room[2] == 0x05 && room[3] == 0xDC, "OutLen 1,500 for all of F1E0");
+    for (size_t i = ELEMENT_HEADER; i < ELEMENT_LARGEST_ROOM; i++)
+        expect(room[i] == 0xC3, "byte %zu of all of F1E0", i);
+    expect(room[ELEMENT_LARGEST_ROOM] == FILL, "the byte behind all of F1E0 untouched");
+    memset(room, FILL, sizeof room);
+    expect(element_execute(get, sizeof get, now.store, STORE, &now.session, room, ELEMENT_LARGEST_ROOM - 1) == 0 && memcmp(room, REFUSED, 4) == 0
+            && now.session.error == 0x0D,
+        "refusal 0D for all of F1E0 in a room of 1,503");
+    for (size_t i = ELEMENT_HEADER; i < sizeof room; i++)
+        expect(room[i] == FILL, "byte %zu of the room untouched by refusal 0D", i);
+}
+
+/* The session's objects: a byte at offset 0, nothing at 1, 08 from 2 on. The last error is cleared only where its byte is answered. */
+static void check_session_reads(void)
+{
+    static const unsigned objects[] = {ELEMENT_LCSG, ELEMENT_LCSA, ELEMENT_LAST_ERROR};
+    static const uint8_t bytes[] = {0x03, 0x07, 0x0A};
+    static const uint8_t errors[] = {0x0A, 0x0A, 0x00}; /* after the byte is answered */
+    static const unsigned lengths[] = {0, 1, 2, 9, ELEMENT_WHOLE};
+    for (size_t i = 0; i < 3; i++)
+        for (size_t j = 0; j < sizeof lengths / sizeof lengths[0]; j++) {
+            const uint8_t answer[] = {0x00, 0x00, 0x00, 0x01, bytes[i]};
+            begin(1, 0x03, 0x07, 0x0A);
+            expect(read_in(objects[i], 0, lengths[j], 5) == 0, "outcome 0 for %u at 0 of %04X", lengths[j], objects[i]);
+            if (lengths[j] == 0)
+                expect(left(DONE, sizeof DONE, 1, 0x0A), "no data for 0 at 0 of %04X", objects[i]);
+            else
+                expect(left(answer, sizeof answer, 1, errors[i]), "the byte of %04X for %u at 0", objects[i], lengths[j]);
+            begin(1, 0x03, 0x07, 0x0A);
+            expect(read_in(objects[i], 0, lengths[j], 4) == 0 && (lengths[j] == 0 ? left(DONE, sizeof DONE, 1, 0x0A) : refused(0x0D)),
+                "no byte of %04X for %u at 0 in a room of 4", objects[i], lengths[j]);
+            begin(1, 0x03, 0x07, 0x0A);
+            expect(read_in(objects[i], 1, lengths[j], 4) == 0 && left(DONE, sizeof DONE, 1, 0x0A), "no data for %u at 1 of %04X", lengths[j], objects[i]);
+            begin(1, 0x03, 0x07, 0x0A);
+            expect(read_in(objects[i], 2, lengths[j], ROOM) == 0 && refused(0x0A), "refusal 08 for %u at 2 of %04X", lengths[j], objects[i]);
+            begin(1, 0x03, 0x07, 0x00);
+            expect(read_in(objects[i], 0xFFFF, lengths[j], ROOM) == 0 && refused(0x08), "refusal 08 for %u at FFFF of %04X", lengths[j], objects[i]);
+        }
 }
 
 /* Every value of session.opened: 0 is closed, any other is open. */
@@ -888,6 +1032,23 @@ static void check_refused_counts(void)
     expect(counts(PLAIN, 0, 1, 0x07), "refusal 07 for the change expression before 03 for no counter");
 }
 
+/* A counter is read as other data is: value and threshold at most, none at 8, 08 from 9 on. */
+static void check_counter_reads(void)
+{
+    static const uint8_t whole[] = {0x00, 0x00, 0x00, 0x08, 0x00, 0x00, 0x00, 0x05, 0x00, 0x00, 0x00, 0x09};
+    static const uint8_t last[] = {0x00, 0x00, 0x00, 0x01, 0x09};
+    static const struct { uint8_t offset; const uint8_t *answer; size_t size; } cases[] = {
+        {0, whole, sizeof whole}, {7, last, sizeof last}, {8, DONE, sizeof DONE}, {9, NULL, 0}
+    };
+    for (size_t i = 0; i < sizeof cases / sizeof cases[0]; i++) {
+        const uint8_t get[] = {ELEMENT_GET, ELEMENT_DATA, 0x00, 0x06, 0xF1, 0xD0, 0x00, cases[i].offset, 0x00, 0x09};
+        begin_counters(5, 9);
+        expect(element_execute(get, sizeof get, counters, sizeof counters, &now.session, now.room, ROOM) == 0
+                && (cases[i].answer == NULL ? refused(0x08) : left(cases[i].answer, cases[i].size, 1, OLD_ERROR)),
+            "what a counter answers to 9 bytes at %u", cases[i].offset);
+    }
+}
+
 /* A write sets all 8 bytes, whatever they are. */
 static void check_counter_writes(void)
 {
@@ -1013,6 +1174,7 @@ static const step STEPS[] = {
     {NULL, 0, 4, 0, {0xFF, 0, 0, 0}, 4},                               /* 04 */
     {READ_BACK, sizeof READ_BACK, 5, 0, {0xFF, 0, 0, 0}, 4},           /* 0D */
     {READ_BACK, sizeof READ_BACK, 7, 0, {0, 0, 0, 2, 0xAB, 0xCD}, 6},
+    {READ_ALL, sizeof READ_ALL, 6, 0, {0, 0, 0, 2, 0xAB, 0xCD}, 6},    /* two bytes of the 65,535 asked for */
     {READ_ERROR, sizeof READ_ERROR, 5, 0, {0, 0, 0, 1, 0x0D}, 5},
     {CLOSE, sizeof CLOSE, 0, 1, {0}, 0},
     {CLOSE, sizeof CLOSE, 4, 0, {0, 0, 0, 0}, 4}
@@ -1089,6 +1251,9 @@ int main(void)
     check_expression_limits();
     check_small_rooms();
     check_large_room();
+    check_short_reads();
+    check_largest_read();
+    check_session_reads();
     check_opened();
     check_states();
     check_errors();
@@ -1098,6 +1263,7 @@ int main(void)
     check_large_stores();
     check_counts();
     check_refused_counts();
+    check_counter_reads();
     check_counter_writes();
     check_kinds();
     check_list_sizes();

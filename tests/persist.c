@@ -247,6 +247,7 @@ static bool is_mixed(void)
 {
     static const uint8_t get[] = {ELEMENT_GET, ELEMENT_DATA, 0, 6, 0xF1, 0xE0, 0, 0, LARGE / 256, LARGE % 256};
     send(&now, get, sizeof get);
+    expect(room[2] == LARGE / 256 && room[3] == LARGE % 256, "all 1,500 bytes of F1E0 are answered");
     return memchr(room + ELEMENT_HEADER, 0x22, LARGE) != NULL && memchr(room + ELEMENT_HEADER, 0x33, LARGE) != NULL;
 }
 

@@ -1,6 +1,7 @@
 //! What the generated cases of a seed cover, judged by the reference itself.
 
 pub mod counters;
+pub mod reads;
 
 use std::fmt::{self, Display, Write};
 
@@ -12,10 +13,12 @@ use crate::generator::cases::{cases, Case};
 use crate::generator::contents::Content;
 use crate::generator::stores::Damage;
 use crate::kinds::ObjectNumber;
+use crate::program::response;
 use crate::replay::{Item, State};
 use crate::session::{is_state, SessionObject, TERMINATION};
 use crate::store::{self, check_store, judge_store, Fault, Record, Slot};
 use counters::{CounterRow, Standing};
+use reads::ReadRow;
 
 /// A row of the coverage table.
 #[derive(Clone, Copy, Debug, PartialEq, Eq)]
@@ -207,7 +210,6 @@ pub enum Feature {
     ReadNothingAtUsed,
     ReadNothingPastUsed,
     ReadToUsed,
-    ReadOnePastUsed,
     ReadWrapsAt16Bits,
     ReadAnError,
     ReadNothingOfAnError,
@@ -225,7 +227,7 @@ pub enum Feature {
 }
 
 impl Feature {
-    pub const ALL: [Feature; 41] = [
+    pub const ALL: [Feature; 40] = [
         Feature::StoreOfOneRecord,
         Feature::StoreOf32Records,
         Feature::StoreOf16384Bytes,
@@ -252,7 +254,6 @@ impl Feature {
         Feature::ReadNothingAtUsed,
         Feature::ReadNothingPastUsed,
         Feature::ReadToUsed,
-        Feature::ReadOnePastUsed,
         Feature::ReadWrapsAt16Bits,
         Feature::ReadAnError,
         Feature::ReadNothingOfAnError,
@@ -270,17 +271,23 @@ impl Feature {
     ];
 }
 
-/// A command with the verdict on it, the state around it and its room's size.
+/// A command with the verdict on it, the state around it, its room's size and
+/// the OutLen of its response.
 struct Event<'e> {
     command: &'e [u8],
     row: CommandRow,
     verdict: Verdict,
     room: usize,
+    out_len: usize,
     before: &'e State,
     after: &'e State,
 }
 
 impl Event<'_> {
+    fn is_refused(&self, refusal: Refusal) -> bool {
+        self.verdict == Verdict::Refused(refusal)
+    }
+
     /// The features that the event shows.
     fn features(&self) -> Vec<Feature> {
         let mut features = self.frame_features();
@@ -328,68 +335,9 @@ impl Event<'_> {
         ])
     }
 
-    fn read_features(&self) -> Vec<Feature> {
-        let Some((object, offset)) = self.object_and_offset() else {
-            return Vec::new();
-        };
-        let length = number_at(self.command, 8);
-        let end = offset + length;
-        let done = self.verdict == Verdict::Done;
-        let out_of_bounds = self.verdict == Verdict::Refused(Refusal::OutOfBounds);
-        let no_room = self.verdict == Verdict::Refused(Refusal::NoRoom);
-        let mut features = chosen(&[
-            (
-                done && length > 0 && self.room == HEADER + length,
-                Feature::RoomFitsExactly,
-            ),
-            (
-                no_room && self.room + 1 == HEADER + length,
-                Feature::RoomOneShort,
-            ),
-            (
-                out_of_bounds && end >= 65_536 && end % 65_536 <= 1_500,
-                Feature::ReadWrapsAt16Bits,
-            ),
-        ]);
-        match object {
-            Object::Session(SessionObject::LastError) => {
-                let error = flush(self.command, self.before.session).error;
-                features.extend(chosen(&[
-                    (done && length == 1 && error > 0, Feature::ReadAnError),
-                    (
-                        done && length == 0 && error > 0,
-                        Feature::ReadNothingOfAnError,
-                    ),
-                ]));
-            }
-            Object::Session(_) => {
-                features.extend(chosen(&[(done && length == 1, Feature::ReadLifeCycle)]));
-            }
-            Object::Stored(record) => {
-                let used = record.used();
-                features.extend(chosen(&[
-                    (
-                        done && length == 0 && offset == used,
-                        Feature::ReadNothingAtUsed,
-                    ),
-                    (
-                        out_of_bounds && length == 0 && offset == used + 1,
-                        Feature::ReadNothingPastUsed,
-                    ),
-                    (done && length > 0 && end == used, Feature::ReadToUsed),
-                    (
-                        out_of_bounds && length > 0 && end == used + 1,
-                        Feature::ReadOnePastUsed,
-                    ),
-                ]));
-            }
-        }
-        features
-    }
-
     fn write_features(&self) -> Vec<Feature> {
         let done = self.verdict == Verdict::Done;
-        let out_of_bounds = self.verdict == Verdict::Refused(Refusal::OutOfBounds);
+        let out_of_bounds = self.is_refused(Refusal::OutOfBounds);
         let Some((object, offset)) = self.object_and_offset() else {
             return Vec::new();
         };
@@ -554,6 +502,7 @@ pub struct Coverage {
     faults: Tally<Fault>,
     contents: Tally<Content>,
     features: Tally<Feature>,
+    reads: Tally<ReadRow>,
     counters: Tally<CounterRow>,
     standings: Tally<(Direction, Standing)>,
     errors: Vec<String>,
@@ -573,6 +522,7 @@ pub fn cover(seed: u64, count: usize) -> Coverage {
         faults: Tally::new(Fault::ALL),
         contents: Tally::new(Content::all()),
         features: Tally::new(Feature::ALL),
+        reads: Tally::new(ReadRow::all()),
         counters: Tally::new(CounterRow::all()),
         standings: Tally::new(Standing::all()),
         errors: Vec::new(),
@@ -659,10 +609,14 @@ impl Coverage {
             row,
             verdict,
             room: room.len(),
+            out_len: response(outcome, room).len().saturating_sub(HEADER),
             before: &before,
             after: state,
         };
         self.add_features(event.features());
+        for row in event.read_rows() {
+            self.reads.add(row);
+        }
         for row in event.counter_rows() {
             self.counters.add(row);
         }
@@ -694,6 +648,10 @@ impl Coverage {
             .features
             .missing()
             .map(|feature| format!("feature {feature:?}"));
+        let reads = self
+            .reads
+            .missing()
+            .map(|row| format!("get of data {row:?}"));
         let counters = self
             .counters
             .missing()
@@ -707,6 +665,7 @@ impl Coverage {
             .chain(faults)
             .chain(contents)
             .chain(features)
+            .chain(reads)
             .chain(counters)
             .chain(standings)
             .collect()
@@ -754,6 +713,7 @@ impl Coverage {
             &self.contents,
         )?;
         put_tally(text, "boundaries and situations", &self.features)?;
+        put_tally(text, "gets of data", &self.reads)?;
         put_tally(
             text,
             "counts, and other commands at counters",

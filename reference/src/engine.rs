@@ -89,11 +89,11 @@ pub enum Action<'c> {
     AnswerData {
         record: Range<usize>,
         offset: Offset,
-        length: Length,
+        shown: Length,
     },
     AnswerSessionObject {
         object: SessionObject,
-        length: Length,
+        shown: Length,
     },
     AnswerMetadata {
         record: Range<usize>,
@@ -279,8 +279,16 @@ fn find_object(in_data: &[u8], store: &[u8]) -> Result<Object, Refusal> {
         .ok_or(Refusal::NoSuchObject)
 }
 
+/// Step 11 of a write.
 fn require_within(offset: Offset, length: Length, limit: usize) -> Result<(), Refusal> {
     require(end_of(offset, length) <= limit, Refusal::OutOfBounds)
+}
+
+/// Step 11 of a get of data, and how many of the used bytes from offset it shows.
+fn length_shown(offset: Offset, length: Length, used: usize) -> Result<Length, Refusal> {
+    require(offset.0 <= used, Refusal::OutOfBounds)?;
+    let end = end_of(offset, length).min(used);
+    Ok(Length(end - offset.0))
 }
 
 fn require_room(out_len: usize, room: usize) -> Result<(), Refusal> {
@@ -297,19 +305,19 @@ fn judge_get_data<'c>(
     let length = Length(number_at(in_data, 4));
     match find_object(in_data, store)? {
         Object::Session(object) => {
-            require_within(offset, length, SESSION_OBJECT_SIZE)?;
-            require_room(length.0, room)?;
-            Ok(Action::AnswerSessionObject { object, length })
+            let shown = length_shown(offset, length, SESSION_OBJECT_SIZE)?;
+            require_room(shown.0, room)?;
+            Ok(Action::AnswerSessionObject { object, shown })
         }
         Object::Stored(place) => {
             let record = Record::at(store, place.clone());
             require(record.grants(Slot::Read, session), Refusal::NoAccess)?;
-            require_within(offset, length, record.used())?;
-            require_room(length.0, room)?;
+            let shown = length_shown(offset, length, record.used())?;
+            require_room(shown.0, room)?;
             Ok(Action::AnswerData {
                 record: place,
                 offset,
-                length,
+                shown,
             })
         }
     }
@@ -435,15 +443,15 @@ fn perform(action: Action<'_>, store: &mut [u8], session: Session, room: &mut [u
         Action::AnswerData {
             record,
             offset,
-            length,
+            shown,
         } => {
-            let data = Record::at(store, record).data(offset, length);
-            out_data(room, length.0).copy_from_slice(data);
+            let data = Record::at(store, record).data(offset, shown);
+            out_data(room, shown.0).copy_from_slice(data);
             session
         }
-        Action::AnswerSessionObject { object, length } => {
-            out_data(room, length.0).fill(session.byte(object));
-            after_read(object, length, session)
+        Action::AnswerSessionObject { object, shown } => {
+            out_data(room, shown.0).fill(session.byte(object));
+            after_read(object, shown, session)
         }
         Action::AnswerMetadata { record } => {
             let record = Record::at(store, record);
@@ -489,9 +497,9 @@ fn answer_nothing(room: &mut [u8], session: Session) -> Session {
     session
 }
 
-/// A get that returns the last error then sets it to 0.
-fn after_read(object: SessionObject, length: Length, session: Session) -> Session {
-    if object == SessionObject::LastError && length.0 == SESSION_OBJECT_SIZE {
+/// A get that returns the byte of the last error then sets it to 0.
+fn after_read(object: SessionObject, shown: Length, session: Session) -> Session {
+    if object == SessionObject::LastError && shown.0 == SESSION_OBJECT_SIZE {
         session.with_byte(object, 0)
     } else {
         session

@@ -279,7 +279,7 @@ impl<'s> Record<'s> {
         expression::holds(self.expression(slot), states)
     }
 
-    /// The part of the data that a read asks for.
+    /// The part of the data that a read shows.
     pub fn data(self, offset: Offset, length: Length) -> &'s [u8] {
         &self.bytes[DATA..][offset.0..][..length.0]
     }

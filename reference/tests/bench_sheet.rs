@@ -36,7 +36,7 @@ fn p3_and_p4_write_after_a_gap() {
     expected.extend_from_slice(&[0; 9]);
     expected.extend(1..=8);
     assert_eq!(element.send_hex("01 00 00 06 F1 D0 00 00 00 11"), expected);
-    assert_eq!(element.code_hex("01 00 00 06 F1 D0 00 00 00 12"), 0x08);
+    assert_eq!(element.send_hex("01 00 00 06 F1 D0 00 00 00 12"), expected);
 }
 
 #[test]
@@ -69,7 +69,7 @@ fn p7_p8_and_p9_operational_object() {
 #[test]
 fn p10_highest_error_is_kept() {
     let mut element = Element::opened();
-    element.send(&get_data(0xF1D0, 0, 1));
+    element.send(&get_data(0xF1D0, 1, 1));
     assert_eq!(element.session.error, 0x08);
     element.send(&get_data(0x1234, 0, 1));
     assert_eq!(element.session.error, 0x08);

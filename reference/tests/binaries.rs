@@ -67,12 +67,15 @@ fn generate_calls() {
     let first = generate(&["lists", "4", "0"]).stdout;
     assert_eq!(first, generate(&["lists", "4", "0"]).stdout);
     assert!(!first.is_empty());
-    // A handful of cases cannot cover every cell.
-    let coverage = generate(&["coverage", "1", "5"]);
+    // So few commands come before any store, and reach no object.
+    let coverage = generate(&["coverage", "1", "1"]);
     assert_eq!(coverage.status.code(), Some(1));
     let text = String::from_utf8(coverage.stdout).unwrap();
     assert!(text.contains("never occurred: get data x 0D"));
     for missing in [
+        "get of data Stored",
+        "get of data Session",
+        "get of data LastError",
         "count x ",
         "counter Count",
         "counter Write",

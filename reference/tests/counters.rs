@@ -360,7 +360,7 @@ fn reads_of_a_counter() {
         let response = element.send(&get_data(COUNTER, 3, 2));
         assert_eq!(response, hex("00 00 00 02 04 05"));
         assert_eq!(element.code(&get_data(COUNTER, 8, 0)), 0);
-        assert_eq!(element.code(&get_data(COUNTER, 0, 9)), 0x08);
+        assert_eq!(element.code(&get_data(COUNTER, 9, 0)), 0x08);
         element.set_expression(COUNTER, Slot::Read, &[0xFF]);
         assert_eq!(element.code(&get_data(COUNTER, 0, 8)), 0x07);
     }

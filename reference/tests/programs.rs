@@ -242,6 +242,31 @@ fn lists_hold_counts() {
     }
 }
 
+/// Whether a response to this command shows fewer bytes than it asks for.
+fn is_short(command: &[u8], response: &[u8]) -> bool {
+    let number = |bytes: &[u8], place: usize| u16::from_be_bytes([bytes[place], bytes[place + 1]]);
+    let is_get = command.len() == 10 && matches!(command[..4], [0x01 | 0x81, 0x00, 0, 6]);
+    is_get && response[0] == 0 && number(response, 2) < number(command, 8)
+}
+
+#[test]
+fn lists_hold_short_reads() {
+    let (mut some, mut none) = (0, 0);
+    for index in (0..60).filter(|&index| ListKind::of_index(index) == ListKind::Full) {
+        let mut element = Element::fresh();
+        for command in commands_of(&list(9, index)) {
+            let response = element.send(command);
+            if is_short(command, &response) {
+                match response.len() {
+                    4 => none += 1,
+                    _ => some += 1,
+                }
+            }
+        }
+    }
+    assert!(some > 10 && none > 10, "{some} {none}");
+}
+
 #[test]
 fn cases_cover_every_reachable_cell() {
     let coverage = cover(1, 20_000);

@@ -271,7 +271,8 @@ fn step_10_comes_before_steps_11_to_13() {
         element.set_expression(0xF1D0, Slot::Change, &[0xFF]);
         element.set_expression(0xF1D0, Slot::Read, &[0xFF]);
     });
-    assert_eq!(element.code(&get_data(0xF1D0, 0, 1)), 0x07);
+    element.set_used(0xF1D0, 1);
+    assert_eq!(element.code(&get_data(0xF1D0, 2, 1)), 0x07);
     assert_eq!(element.code_in(&get_data(0xF1D0, 0, 1), 4), 0x07);
     assert_eq!(element.code(&write(0xF1D0, 140, &[1])), 0x07);
     assert_eq!(element.code(&set_metadata(0xF1D0, &[])), 0x07);
@@ -285,18 +286,19 @@ fn step_11_boundaries_of_a_read() {
     });
     for (offset, length, code) in [
         (0, 10, 0),
-        (0, 11, 8),
+        (0, 11, 0),
         (9, 1, 0),
-        (9, 2, 8),
+        (9, 2, 0),
         (10, 0, 0),
-        (10, 1, 8),
+        (10, 1, 0),
         (11, 0, 8),
-        (0, 140, 8),
+        (11, 1, 8),
+        (0, 140, 0),
         (140, 0, 8),
         (65_535, 0, 8),
         (65_535, 1, 8),
         (65_535, 11, 8),
-        (1, 65_535, 8),
+        (1, 65_535, 0),
         (65_535, 65_535, 8),
     ] {
         assert_eq!(
@@ -334,7 +336,7 @@ fn step_11_comes_before_steps_12_and_13() {
     // A life cycle value that is not allowed, out of bounds.
     assert_eq!(element.code(&write(0xE0C0, 1, &[0x02])), 0x08);
     assert_eq!(element.code(&write(0xF1C0, 0, &[0x02, 0x02])), 0x08);
-    assert_eq!(element.code_in(&get_data(0xF1D0, 0, 1), 4), 0x08);
+    assert_eq!(element.code_in(&get_data(0xF1D0, 1, 1), 4), 0x08);
 }
 
 #[test]

@@ -69,7 +69,7 @@ fn slip_4_access_comes_before_the_boundary() {
     assert_eq!(element.code(&write(0xF1D0, 140, &[1])), 0x07);
     assert_eq!(element.code(&common::erase_and_write(0xF1D0, 140, &[1])), 7);
     element.set_expression(0xF1D0, Slot::Read, &[0xFF]);
-    assert_eq!(element.code(&get_data(0xF1D0, 0, 1)), 0x07);
+    assert_eq!(element.code(&get_data(0xF1D0, 1, 1)), 0x07);
     assert_eq!(element.code(&write(0xF1C2, 1, &[1])), 0x07);
 }
 

@@ -139,6 +139,11 @@ fn tell_fare(element: &mut Element, output: &mut impl Write) -> io::Result<()> {
     tell(output, "write 8 bytes at 0 of F1D0", written, Ok(&[]))?;
     let read = element.read(FARES, Offset(0), Length(8), &mut room);
     tell(output, "read them", read, Ok(b"FARE 001"))?;
+    let all = element.read(FARES, Offset(0), Length::ALL, &mut room[..12]);
+    let step = "read all that is in use into a room of 12";
+    tell(output, step, all, Ok(b"FARE 001"))?;
+    let none = element.read(FARES, Offset(8), Length(8), &mut room);
+    tell(output, "read at 8, where nothing is in use", none, Ok(&[]))?;
     let last = no_data(element.write(FARES, Offset(132), b"FARE 018", &mut scratch));
     tell(output, "write 8 bytes at 132 of 140", last, Ok(&[]))?;
     let past = no_data(element.write(FARES, Offset(133), b"FARE 019", &mut scratch));

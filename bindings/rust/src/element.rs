@@ -16,7 +16,7 @@ impl ObjectNumber {
     pub const LCSG: ObjectNumber = ObjectNumber(0xE0C0);
     /// LcsA, one byte that lives in the session.
     pub const LCSA: ObjectNumber = ObjectNumber(0xF1C0);
-    /// The last error, one byte that lives in the session; a read sets it to 0.
+    /// The last error, one byte that lives in the session; a read that gives the byte sets it to 0.
     pub const LAST_ERROR: ObjectNumber = ObjectNumber(0xF1C2);
 }
 
@@ -24,9 +24,14 @@ impl ObjectNumber {
 #[derive(Clone, Copy, Debug, PartialEq, Eq, PartialOrd, Ord, Hash)]
 pub struct Offset(pub u16);
 
-/// How many bytes to read.
+/// How many bytes to read at most.
 #[derive(Clone, Copy, Debug, PartialEq, Eq, PartialOrd, Ord, Hash)]
 pub struct Length(pub u16);
+
+impl Length {
+    /// All that is in use from the offset on.
+    pub const ALL: Length = Length(0xFFFF);
+}
 
 /// What came of a command sent as bytes.
 #[derive(Clone, Copy, Debug, PartialEq, Eq)]
@@ -94,16 +99,26 @@ impl<'a> Element<'a> {
         self.change(&[CLOSE, DATA, 0, 0])
     }
 
-    /// Reads data of an object into the room, which has [`HEADER`] bytes more than the length, and gives the data.
+    /// Reads data of an object into the room and gives it: the bytes in use from the offset on, at most the length. So it may be fewer bytes than
+    /// asked; at the end of the bytes in use it is none. The room has [`HEADER`] bytes more than what is given.
+    ///
+    /// [`Refusal::BoundaryExceeded`] where the offset is past the bytes in use.
     ///
     /// ```
     /// # use element::{Element, Error, Length, ObjectNumber, Offset, Refusal, Session, FACTORY_STORE_SIZE};
+    /// # use element::{HEADER, LEAD};
     /// # let (mut store, mut session) = ([0; FACTORY_STORE_SIZE], Session::fresh());
     /// # let mut element = Element::factory(&mut store, &mut session)?;
     /// # element.open()?;
-    /// let mut room = [0; 5];
-    /// let none_in_use = element.read(ObjectNumber(0xF1D0), Offset(0), Length(1), &mut room);
-    /// assert_eq!(none_in_use, Err(Error::Refused(Refusal::BoundaryExceeded)));
+    /// let fares = ObjectNumber(0xF1D0);
+    /// element.write(fares, Offset(0), b"FARE", &mut [0; LEAD + 4])?;
+    ///
+    /// let mut room = [0; HEADER + 4];
+    /// assert_eq!(element.read(fares, Offset(0), Length(8), &mut room)?, b"FARE"); // 4 of 8
+    /// assert_eq!(element.read(fares, Offset(1), Length::ALL, &mut room)?, b"ARE");
+    /// assert_eq!(element.read(fares, Offset(4), Length(8), &mut room)?, b"");
+    /// let past = element.read(fares, Offset(5), Length(8), &mut room);
+    /// assert_eq!(past, Err(Error::Refused(Refusal::BoundaryExceeded)));
     ///
     /// let error = element.read(ObjectNumber::LAST_ERROR, Offset(0), Length(1), &mut room)?;
     /// assert_eq!(error, [0x08]);
@@ -186,11 +201,18 @@ impl<'a> Element<'a> {
     }
 
     /// Reads value and threshold of a counter. The record's kind is not looked at: of other data the first eight bytes are read so.
+    ///
+    /// [`Error::WrongSize`] where fewer than eight bytes are in use.
     pub fn counter(&mut self, object: ObjectNumber) -> Result<Counter, Error> {
+        let before = *self.session;
         let mut room = [0; HEADER + COUNTER_SIZE];
         let length = Length(COUNTER_SIZE as u16);
         let data = self.read(object, Offset(0), length, &mut room)?;
-        let bytes = data.try_into().map_err(|_| Error::WrongSize)?;
+        let Ok(bytes) = data.try_into() else {
+            // Of the last error the one byte was given, and so cleared.
+            *self.session = before;
+            return Err(Error::WrongSize);
+        };
         Ok(Counter::from_bytes(bytes))
     }
 

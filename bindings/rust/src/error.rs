@@ -26,7 +26,7 @@ pub enum Refusal {
     InternalError = 0x06,
     /// The access condition does not hold.
     AccessDenied = 0x07,
-    /// Past the bytes in use (get); past the maximum, or not all of a counter (write); at the threshold, or not at offset 0 (count).
+    /// An offset past the bytes in use (get); past the maximum, or not all of a counter (write); at the threshold, or not at offset 0 (count).
     BoundaryExceeded = 0x08,
     /// Unknown Cmd.
     InvalidCommand = 0x0A,
@@ -70,7 +70,7 @@ impl Refusal {
             Refusal::InternalError => "the store is malformed, or LcsG or LcsA is no state",
             Refusal::AccessDenied => "the access condition does not hold",
             Refusal::BoundaryExceeded => {
-                "past the bytes in use (get); past the maximum, or not all of a counter (write); at the threshold, or not at offset 0 (count)"
+                "an offset past the bytes in use (get); past the maximum, or not all of a counter (write); at the threshold, or not at offset 0 (count)"
             }
             Refusal::InvalidCommand => "unknown Cmd",
             Refusal::NotAvailable => "the application is closed, or terminated",
@@ -92,7 +92,8 @@ impl core::error::Error for Refusal {}
 pub enum Error {
     /// The room is under [`LEAST_ROOM`](crate::LEAST_ROOM) bytes; nothing is changed.
     NoRoom,
-    /// A buffer has not the size that the call needs, or what is to be written fits no command; nothing is changed.
+    /// A buffer has not the size that the call needs, what is to be written fits no command, or an object has too few bytes in use for a counter;
+    /// nothing is changed.
     WrongSize,
     /// The element refused the command, with this number of its own; of store and session only the last error is changed.
     Refused(Refusal),
@@ -103,7 +104,7 @@ impl fmt::Display for Error {
         match self {
             Error::NoRoom => out.write_str("the room is under 4 bytes"),
             Error::WrongSize => {
-                out.write_str("a buffer has the wrong size, or its bytes fit no command")
+                out.write_str("a buffer has the wrong size, its bytes fit no command, or an object has too few for a counter")
             }
             Error::Refused(refusal) => write!(out, "refused {refusal}"),
         }

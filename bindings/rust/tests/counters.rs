@@ -145,7 +145,11 @@ fn a_write_sets_the_whole_counter() {
 fn a_counter_is_read_as_other_data_is() {
     let mut element = counters(of(12, 300), of(9, 0));
     assert_eq!(read(&mut element, UP, 4, 4), Ok(vec![0, 0, 0x01, 0x2C]));
-    let past = read(&mut element, UP, 0, 9);
+    let whole = of(12, 300).to_bytes();
+    assert_eq!(read(&mut element, UP, 0, 9), Ok(whole.to_vec()));
+    assert_eq!(read(&mut element, UP, 7, 2), Ok(vec![0x2C]));
+    assert_eq!(read(&mut element, UP, 8, 1), Ok(vec![]));
+    let past = read(&mut element, UP, 9, 0);
     assert_eq!(past, refused(Refusal::BoundaryExceeded));
     let fields = metadata(&mut element, UP).unwrap();
     assert_eq!(fields[3..11], [tag::MAXIMUM, 2, 0, 8, tag::USED, 2, 0, 8]);
@@ -153,6 +157,40 @@ fn a_counter_is_read_as_other_data_is() {
     assert_eq!(element.counter(PLAIN), Ok(plain));
     let unknown = element.counter(ObjectNumber(0xF1D3));
     assert_eq!(unknown, refused(Refusal::InvalidObject));
+}
+
+#[test]
+fn fewer_than_eight_bytes_are_no_counter() {
+    for size in 1..8 {
+        let store = record(kind::DATA, PLAIN, &b"PLAIN 01"[..size]);
+        let mut element = element_of(store, OPENED);
+        assert_eq!(element.counter(PLAIN), Err(Error::WrongSize), "{size}");
+        assert_eq!(element.session(), OPENED);
+    }
+    let mut unused = record(kind::DATA, PLAIN, &[0; 8]);
+    unused[8] = 0;
+    let mut element = element_of(unused, OPENED);
+    assert_eq!(element.counter(PLAIN), Err(Error::WrongSize));
+    let store = record(kind::DATA, PLAIN, b"PLAIN 012");
+    let front = Counter::from_bytes(*b"PLAIN 01");
+    assert_eq!(element_of(store, OPENED).counter(PLAIN), Ok(front));
+}
+
+#[test]
+fn a_byte_of_the_session_is_no_counter_and_stays() {
+    let session = Session {
+        error: 0x08,
+        ..OPENED
+    };
+    let mut element = element_of(record(kind::DATA, PLAIN, &[1]), session);
+    for object in [
+        ObjectNumber::LCSG,
+        ObjectNumber::LCSA,
+        ObjectNumber::LAST_ERROR,
+    ] {
+        assert_eq!(element.counter(object), Err(Error::WrongSize));
+        assert_eq!(element.session(), session);
+    }
 }
 
 #[test]

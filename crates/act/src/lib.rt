@@ -1,5 +1,6 @@
 // What an accepted action does, at an object of the session and at a found record.
 use rules::Action;
+use rules::Length;
 use rules::ObjectNumber;
 use rules::Session;
 ghost use mathlib.Core.Path.{_≡_};
@@ -9,21 +10,25 @@ ghost use Prim.Native.Nat.{_+_, _≤_};
 ghost use lib.Dec.{eqb, leb};
 ghost use lib.ListN.{length, getD};
 ghost use Rattle.rules.specs.Basic.{if_then_else_};
-ghost use Rattle.rules.specs.Command.{offset, asked-length};
+ghost use Rattle.rules.specs.Command.{offset};
 ghost use Rattle.rules.specs.Object.{used};
 ghost use Rattle.rules.specs.Session.{with-error, with-state};
 ghost use Rattle.command.specs.Table.{InFull};
 ghost use Rattle.record.specs.Places.{object-at, Stored};
-ghost use Rattle.act.specs.Acting.{done-with, shown, session-does, record-does, InSessionMay, OnRecordMay, stored-at};
+ghost use Rattle.rules.specs.Operation.{shown};
+ghost use Rattle.act.specs.Acting.{done-with, session-does, record-does, InSessionMay, OnRecordMay, stored-at};
 
-// The session after its object of this number was shown: the last error is cleared.
-fn shown_session(number: ObjectNumber, session: Session) -> Session
-    ensures { λ r. ⌜ r ≡ (if eqb (number .0) 0xF1C2 then with-error 0 session else session) ⌝ }
+// The session after so many bytes of its object of this number were shown: a last error that was returned is cleared.
+fn shown_session(number: ObjectNumber, shown: Length, session: Session) -> Session
+    ensures { λ r. ⌜ r ≡ (if eqb (number .0) 0xF1C2 && leb 1 (shown .0) then with-error 0 session else session) ⌝ }
 {
-    if number.0 == 0xF1C2 {
-        return session::with_error(0, session);
+    if number.0 != 0xF1C2 {
+        return session;
     }
-    session
+    if shown.0 < 1 {
+        return session;
+    }
+    session::with_error(0, session)
 }
 
 // Answers a get of data from an object of the session: the session after it.
@@ -34,19 +39,15 @@ fn show_byte(
     session: Session,
     room: &mut [u8],
 ) -> Session
-    requires { ⌜ (10 ≤ length (now command)) × (offset (now command) + asked-length (now command) ≤ 1)
-        × (4 + asked-length (now command) ≤ length (now room)) ⌝ }
-    ensures { λ r. ⌜ (r ≡ (if eqb (number .0) 0xF1C2 && leb 1 (asked-length (now (command .entry))) then with-error 0 session else session))
+    requires { ⌜ (10 ≤ length (now command)) × (4 + length (shown (now command) (byte ∷ [])) ≤ length (now room)) ⌝ }
+    ensures { λ r. ⌜ (r ≡ (if eqb (number .0) 0xF1C2 && leb 1 (length (shown (now (command .entry)) (byte ∷ []))) then with-error 0 session else session))
         × (now (room .exit) ≡ done-with (shown (now (command .entry)) (byte ∷ [])) (now (room .entry))) ⌝ }
 {
-    let count = command::asked_length(command);
-    if count.0 < 1 {
-        response::done(room);
-        return session;
-    }
+    let asked = command::asked_length(command);
+    let shown = bounds::shown_length(command::offset(command), asked, Length(1));
     let one = [byte];
-    response::answer(room, &one);
-    shown_session(number, session)
+    response::answer(room, &one[..shown.0]);
+    shown_session(number, shown, session)
 }
 
 // A life cycle takes the byte sent: the session after it.
@@ -67,7 +68,7 @@ pub fn act_in_session(
     session: Session,
     room: &mut [u8],
 ) -> Session
-    requires { ⌜ InFull asked (now command) × InSessionMay asked (now command) (length (now room)) ⌝ }
+    requires { ⌜ InFull asked (now command) × InSessionMay asked (now command) byte (length (now room)) ⌝ }
     ensures { λ r. ⌜ (r ≡ session-does asked (now (command .entry)) (number .0) byte session .session)
         × (now (room .exit) ≡ done-with (session-does asked (now (command .entry)) (number .0) byte session .answer) (now (room .entry))) ⌝ }
 {
@@ -83,16 +84,14 @@ pub fn act_in_session(
 
 // Answers a get of data from a found record: the stored bytes, a part of the store, are copied into the room.
 fn show_data(command: &[u8], store: &[u8], at: usize, room: &mut [u8])
-    requires { ⌜ Stored at (now store) × (10 ≤ length (now command)) × (offset (now command) + asked-length (now command) ≤ used (object-at at (now store)))
-        × (4 + asked-length (now command) ≤ length (now room)) ⌝ }
+    requires { ⌜ Stored at (now store) × (10 ≤ length (now command)) × (offset (now command) ≤ used (object-at at (now store)))
+        × (4 + length (shown (now command) (object-at at (now store) .content)) ≤ length (now room)) ⌝ }
     ensures { λ _. ⌜ now (room .exit) ≡ done-with (shown (now (command .entry)) (object-at at (now (store .entry)) .content)) (now (room .entry)) ⌝ }
 {
-    let shown = record::data_part(
-        store,
-        at,
-        command::offset(command),
-        command::asked_length(command),
-    );
+    let from = command::offset(command);
+    let asked = command::asked_length(command);
+    let count = bounds::shown_length(from, asked, record::used_at(store, at));
+    let shown = record::data_part(store, at, from, count);
     response::answer(room, shown);
 }
 

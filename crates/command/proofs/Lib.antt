@@ -1,5 +1,4 @@
 pub mod Table
-pub mod Tests
 pub mod Parts
 pub mod Steps
 pub mod InForm

@@ -9,20 +9,16 @@ use rules::Session;
 use rules::Sizes;
 use rules::Verdict;
 ghost use mathlib.Core.Path.{_≡_};
-ghost use Prim.Native.Nat.{_+_, _≤_};
-ghost use lib.Dec.{leb, ltb};
+ghost use Prim.Native.Nat.{_≤_};
 ghost use lib.ListN.{length};
 ghost use Rattle.rules.specs.Basic.{same};
 ghost use Rattle.rules.specs.Command.{asks-flush, cmd, command-table, row, known-cmd, size-right};
 ghost use Rattle.rules.specs.Command.{object-number, offset, asked-length, sent-data, step-byte, sent-metadata};
 ghost use Rattle.rules.specs.Refusals.{unsound, ill-sized, unknown-cmd, unusable, unknown-param, wrong-length, wrong-content};
-ghost use Rattle.rules.specs.Refusals.{early, fitting};
+ghost use Rattle.rules.specs.Refusals.{early};
 ghost use Rattle.rules.specs.Response.{code};
 ghost use Rattle.rules.specs.Step.{flushed};
 ghost use Rattle.command.specs.Table.{row-in, action-sizes, row-sizes};
-
-// Bytes of a response before its answer: status, 00 and OutLen.
-const HEADER: usize = 4;
 
 // The parts of a command.
 
@@ -313,38 +309,6 @@ pub fn early(sound: bool, command: &[u8], session: Session) -> Verdict
     }
     if wrong_content(command) {
         return Verdict::Refused(Refusal::InvalidData);
-    }
-    Verdict::Accepted
-}
-
-// The steps 11 and 13.
-
-// So many bytes from an offset stay within a limit: the boundary test of step 11. A difference, since a sum could wrap.
-pub fn fits(from: Offset, count: Length, limit: Length) -> bool
-    ensures { λ r. ⌜ r ≡ leb (from .0 + count .0) (limit .0) ⌝ }
-{
-    if limit.0 < from.0 {
-        return false;
-    }
-    count.0 <= limit.0 - from.0
-}
-
-// Step 13: a response whose answer has so many bytes is longer than a room of this size. A difference again.
-fn too_long(answer: Length, room: usize) -> bool
-    ensures { λ r. ⌜ r ≡ ltb room (4 + answer .0) ⌝ }
-{
-    if room < HEADER {
-        return true;
-    }
-    room - HEADER < answer.0
-}
-
-// The verdict on an answer of so many bytes, for a room of this size.
-pub fn fitting(answer: Length, room: usize) -> Verdict
-    ensures { λ r. ⌜ r ≡ fitting (answer .0) room ⌝ }
-{
-    if too_long(answer, room) {
-        return Verdict::Refused(Refusal::InsufficientBuffer);
     }
     Verdict::Accepted
 }

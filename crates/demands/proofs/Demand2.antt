@@ -1,14 +1,15 @@
 -- Demand 2 of one command: a write to a stored object makes its change exactly when the command is well formed, the stored change
 -- condition holds and the content is allowed and fits; a data read shows exactly the stored bytes, only when the read condition holds.
-use Prim.Native.Nat.{ℕ, _+_, _≤_}
+use Prim.Native.Nat.{ℕ, _≤_, _<_}
 use mathlib.Core.Bool.{Bool, true, false, not, _&&_, false≢true}
 use mathlib.Core.List.{List, []}
 use mathlib.Core.Option.{some}
-use mathlib.Core.Path.{_≡_, refl, sym, ap, _∙_}
+use mathlib.Core.Path.{_≡_, refl, sym, ap, subst, _∙_}
 use native.Mathlib.Omega.{arith}
 use borrow.Author.Tests.{leb-true, le-leb, not-true, not-false}
 use lib.Dec.{eqb}
 use lib.ListN.{length, getD}
+use lib.Seq.{ext-getD}
 use Rattle.rules.specs.declared.Session.{Session}
 use Rattle.rules.specs.declared.Refusal.{Refusal}
 use Rattle.rules.specs.declared.Refusal.the-variants.{InvalidParam, InvalidData, BoundaryExceeded}
@@ -19,17 +20,17 @@ use Rattle.rules.specs.declared.Row.the-variants.{OnObject}
 use Rattle.rules.specs.declared.Verdict.{Verdict}
 use Rattle.rules.specs.declared.Verdict.the-variants.{Accepted}
 use Rattle.rules.specs.Basic.{if_then_else_}
-use Rattle.rules.specs.Command.{row, object-number, offset, asked-length, sent-data}
+use Rattle.rules.specs.Command.{row, object-number, offset, sent-data}
 use Rattle.rules.specs.Response.{done-response, put-in-front}
 use Rattle.rules.specs.Object.{Object, used, is, of-session, is-counter, direction}
 use Rattle.rules.specs.Counter.{exhausted}
 use Rattle.rules.specs.Layout.{objects-allowed, pack, find, replaced}
 use Rattle.rules.specs.Chain.{_refused_or_}
 use Rattle.rules.specs.Access.{Seen, seen, named, holds, asked, granted}
-use Rattle.rules.specs.Operation.{value-allowed, operation}
+use Rattle.rules.specs.Operation.{shown, value-allowed, operation}
 use Rattle.rules.specs.Refusals.{unsound, unusable, early, Ruling, ruling-on, ruling, late, verdict}
 use Rattle.rules.specs.Step.{After, replacing, performed, answered, judged, flushed, step}
-use Rattle.demands.specs.Demand.{is-done, Ready, well-formed, writes, content-allowed, changed, MayWrite, WritesExactly, MayRead, bytes-shown, ReadsExactly}
+use Rattle.demands.specs.Demand.{is-done, Ready, well-formed, writes, content-allowed, changed, MayWrite, WritesExactly, MayRead, Shows, bytes-shown, ReadsExactly}
 use Rattle.laws.proofs.Tests.{and-left, and-right, or-parts}
 use Rattle.laws.proofs.Inverse.{unpack-pack, pack-unpack}
 use Rattle.laws.proofs.Verdicts.{passed, EarlyPassed, early-passed, early-accepts, LatePassed, late-passed, late-accepts, NinePassed, nine-passed, verdict-passed, verdict-accepts}
@@ -38,7 +39,7 @@ use Rattle.laws.proofs.Named.{named-in-store, FoundThere, found-there, flush-ke
 use Rattle.laws.proofs.Views.{early-alike, session-left}
 use Rattle.laws.proofs.Keeps.{ruling-kept}
 use Rattle.demands.proofs.Demand1.{step-judged, done-judged, not-done-kept}
-use Rattle.laws.proofs.Puts.{shown-length}
+use Rattle.laws.proofs.Puts.{shown-length, shown-there}
 
 -- what an action asks of a stored object ------------------------------------------------------------------------------------
 
@@ -78,6 +79,17 @@ module _ (c : List ℕ) (o : Object) (see : Seen) (kind : of-session (o .kind) �
   action-writes Count w =
       let judged = count-refusals (is-counter (o .kind)) (eqb (offset c) 0) (exhausted (direction (o .kind)) (o .content)) in
       record { refusal = _; asks = refl; judges = judged; silent = refl; puts = refl }
+
+-- the bytes that a data read shows -----------------------------------------------------------------------------------------
+
+module _ (c content : List ℕ) where
+  pub shown-shows : offset c ≤ length content → Shows c content (shown c content)
+  shown-shows h = record { how-many = omega (arith, h, shown-length c content); which = shown-there c content }
+
+  pub shows-alone : (out : List ℕ) → Shows c content out → out ≡ shown c content
+  shows-alone out w =
+      let many : length out ≡ length (shown c content) = omega (arith, w .how-many, shown-length c content) in
+      ext-getD 0 out (shown c content) many (λ i h. w .which i h ∙ sym (shown-there c content i (subst (λ n. i < n) many h)))
 
 -- one command on a ready element -------------------------------------------------------------------------------------------
 
@@ -181,29 +193,28 @@ module _ (c room store : List ℕ) (s : Session) (os : List Object) where
     pub read-accepted : MayRead c (length room) see o → verdict-now ≡ Accepted
     unfolding granted asked operation _refused_or_
     read-accepted m =
-        let within = le-leb (offset c + asked-length c) (used o) (m .within-used) in
-        accepted-by o ready GetData acts names-it (m .command-well-formed) (search (m, within, shown-length c (o .content) (m .within-used), arith))
+        let within = le-leb (offset c) (used o) (m .within-used) in
+        accepted-by o ready GetData acts names-it (m .command-well-formed) (search (m, within))
 
     pub accepted-read : verdict-now ≡ Accepted → MayRead c (length room) see o
     unfolding granted asked operation
     accepted-read e =
         let (formed, l) = accepted-passed o ready GetData acts names-it e in
-        let within = leb-true (offset c + asked-length c) (used o) (not-false _ (passed _ _ _ (l .own) .0)) in
-        let fits : 4 + asked-length c ≤ length room = omega (arith, l .fits, shown-length c (o .content) within) in
-        record { command-well-formed = formed; read-condition-holds = l .granted; within-used = within; answer-fits = fits }
+        let within = leb-true (offset c) (used o) (not-false _ (passed _ _ _ (l .own) .0)) in
+        record { command-well-formed = formed; read-condition-holds = l .granted; within-used = within; answer-fits = l .fits }
 
     -- where nothing is stored, the packing is the store
-    pub read-step : verdict-now ≡ Accepted → step c room store s ≡ bytes-shown c (o .content) room store (operation GetData c o see .session)
+    pub read-step : verdict-now ≡ Accepted → step c room store s ≡ bytes-shown (shown c (o .content)) room store (operation GetData c o see .session)
     unfolding performed replacing operation
     read-step e = performed-by o ready GetData acts names-it e ∙ rw (pack-unpack store os (ready .store-sound) .0)
 
   -- of a stored object
   module _ (o : Object) (ready : Ready room store s os) (acts : row c ≡ OnObject GetData) (finds : find (object-number c) os ≡ some o) where
-    shown-step : verdict-now ≡ Accepted → step c room store s ≡ bytes-shown c (o .content) room store now
+    shown-step : verdict-now ≡ Accepted → step c room store s ≡ bytes-shown (shown c (o .content)) room store now
     unfolding seen
     shown-step e =
         read-step o ready acts (stored-named o ready finds) e ∙
-        ap (bytes-shown c (o .content) room store) (session-left GetData c o see (there o ready finds .facts .outside-session))
+        ap (bytes-shown (shown c (o .content)) room store) (session-left GetData c o see (there o ready finds .facts .outside-session))
 
     pub read-exactly-when : ReadsExactly c room store s os o (step c room store s)
     read-exactly-when =
@@ -212,6 +223,8 @@ module _ (c room store : List ℕ) (s : Session) (os : List Object) where
         let passed = accepted-read o ready acts (stored-named o ready finds) in
         record {
           when = λ m. let holding = flush ∙ m .read-condition-holds in shown-step (accepted (search (m, holding)));
+          shows = λ m. shown-shows c (o .content) (m .within-used);
+          nothing-else = shows-alone c (o .content);
           only-when = λ h. let m = passed (done-accepted ready h) in let holding = sym flush ∙ m .read-condition-holds in search (m, holding);
           store-kept =
               elim (is-done (step c room store s)) as (λ t. is-done (step c room store s) ≡ t → step c room store s .store ≡ store)

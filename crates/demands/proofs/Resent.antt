@@ -6,7 +6,7 @@ use mathlib.Core.Option.{Option, none, some}
 use mathlib.Core.Path.{_≡_, refl, ap, _∙_}
 use native.Mathlib.Omega.{arith}
 use lib.Dec.{eqb}
-use lib.ListN.{length, length-take, length-drop}
+use lib.ListN.{length}
 use Rattle.rules.specs.declared.Session.{Session}
 use Rattle.rules.specs.declared.Kind.the-variants.{LifeCycle, Status}
 use Rattle.rules.specs.declared.Refusal.{Refusal}
@@ -28,6 +28,7 @@ use Rattle.rules.specs.Operation.{setting-session, operation}
 use Rattle.rules.specs.Refusals.{ruling-on, ruling-of, ruling, late, verdict}
 use Rattle.rules.specs.Step.{After, raised, declined, answered, judged, flushed, step}
 use Rattle.laws.proofs.Tests.{if-by}
+use Rattle.laws.proofs.Puts.{shown-length}
 use Rattle.laws.proofs.Named.{error-aside}
 use Rattle.laws.proofs.Views.{early-alike, ruling-alike, late-alike}
 use Rattle.demands.proofs.Demand1.{step-judged}
@@ -40,7 +41,7 @@ module _ (c : List ℕ) (see : Seen) (room n m : ℕ) where
 
   error-same : (a : Action) → byte-late a n ≡ byte-late a m
   unfolding late ruling-on granted asked operation session-object session-change of-session is-counter is kind-number holds _refused_or_ _and-then_
-  error-same GetData = simp (length-take, length-drop)
+  error-same GetData = simp shown-length
   error-same GetMetadata = refl
   error-same Write = refl
   error-same EraseAndWrite = refl

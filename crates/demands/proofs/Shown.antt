@@ -1,30 +1,31 @@
 -- A data read that is done, with nothing assumed of store and session: what it showed, and that it might be shown. And when the byte of an object
 -- of the session is shown.
-use Prim.Native.Nat.{ℕ}
-use mathlib.Core.Bool.{Bool, true, false, and-true}
+use Prim.Native.Nat.{ℕ, zero, suc, _+_, min}
+use mathlib.Core.Bool.{Bool, true, false, _&&_, and-true}
 use mathlib.Core.List.{List, [], _∷_}
 use mathlib.Core.Option.{none, some}
 use mathlib.Core.Path.{_≡_, refl, sym, ap, _∙_}
 use native.Mathlib.Omega.{arith}
-use borrow.Author.Tests.{eqb-true, not-false}
-use lib.Dec.{eqb}
+use borrow.Author.Tests.{eqb-true, ne-eqb, le-leb, not-false}
+use lib.Dec.{eqb, leb}
 use lib.ListN.{length}
+use lib.Seq.{slice, drop-nil}
 use Rattle.rules.specs.declared.Session.{Session}
 use Rattle.rules.specs.declared.Kind.{Kind}
 use Rattle.rules.specs.declared.Kind.the-variants.{LifeCycle, Status}
 use Rattle.rules.specs.declared.Action.{Action}
 use Rattle.rules.specs.declared.Action.the-variants.{GetData}
 use Rattle.rules.specs.declared.Row.the-variants.{OnObject}
-use Rattle.rules.specs.Basic.{among, is-some, or-else}
-use Rattle.rules.specs.Command.{row, object-number}
+use Rattle.rules.specs.Basic.{if_then_else_, among, is-some, or-else}
+use Rattle.rules.specs.Command.{row, object-number, offset, asked-length}
 use Rattle.rules.specs.Object.{Object, in-session}
 use Rattle.rules.specs.Layout.{unpack, find}
 use Rattle.rules.specs.Session.{session-object, session-objects}
 use Rattle.rules.specs.Access.{Seen, seen, named, holds}
-use Rattle.rules.specs.Operation.{operation}
+use Rattle.rules.specs.Operation.{shown, operation}
 use Rattle.rules.specs.Refusals.{unsound, unusable}
 use Rattle.rules.specs.Step.{flushed, step}
-use Rattle.demands.specs.Demand.{is-done, Ready, session-byte, MayReadByte, after-byte, bytes-shown, Shown, of-object, of-session}
+use Rattle.demands.specs.Demand.{is-done, Ready, session-byte, asks-byte, byte-shown, MayReadByte, after-byte, bytes-shown, Shown, of-object, of-session}
 use Rattle.laws.proofs.Tests.{or-left, or-right, some-else}
 use Rattle.laws.proofs.Verdicts.{early-passed, verdict-passed}
 use Rattle.laws.proofs.Rows.{on-object}
@@ -66,11 +67,38 @@ which-named n see = go (eqb n 0xE0C0) refl (eqb n 0xF1C0) refl (eqb n 0xF1C2) re
     go false g false a true e = session-named (see .session .error) Status (rw (g, a, e)) (rw (g, a, e) (at 0xF1C2 (see .session .error) Status e))
     go false g false a false e = session-not-named (rw (g, a, e)) (rw (g, a, e))
 
+-- what is shown of one byte -----------------------------------------------------------------------------------------------------------
+
+module _ (c : List ℕ) (byte : ℕ) where
+  one-shown : shown c (byte ∷ []) ≡ byte-shown c byte
+  unfolding shown byte-shown asks-byte
+  one-shown = by (offset c) (asked-length c)
+    where
+      by : (k n : ℕ) → slice k (min 1 (k + n)) (byte ∷ []) ≡ (if eqb k 0 && leb 1 n then byte ∷ [] else [])
+      by zero zero = refl
+      by zero (suc n) = let whole : min 1 (0 + suc n) ≡ 1 = omega arith in rw (whole, le-leb 1 (suc n) (omega arith))
+      by (suc k) n = let whole : min 1 (suc k + n) ≡ 1 = omega arith in rw (whole, ne-eqb (suc k) 0 (λ e. omega arith)) (drop-nil k)
+
+  one-asked : leb 1 (length (shown c (byte ∷ []))) ≡ asks-byte c
+  unfolding byte-shown
+  one-asked = ap (λ out. leb 1 (length out)) one-shown ∙ by (asks-byte c)
+    where
+      by : (t : Bool) → leb 1 (length (if t then byte ∷ [] else [])) ≡ t
+      by true = refl
+      by false = refl
+
+  -- and what stands after it
+  byte-left : (k : Kind) (room store : List ℕ) (see : Seen) →
+      bytes-shown (shown c (byte ∷ [])) room store (operation GetData c (session-object (object-number c) k byte) see .session) ≡
+      bytes-shown (byte-shown c byte) room store (after-byte c (see .session))
+  unfolding operation session-object after-byte
+  byte-left k room store see = rw (one-asked, one-shown)
+
 -- demand 2: a data read that is done, with nothing assumed of store and session ----------------------------------------------------------
 
 pub read-only-when : (c room store : List ℕ) (s : Session) → row c ≡ OnObject GetData → is-done (step c room store s) ≡ true →
     Shown c room store s (step c room store s)
-unfolding operation session-object after-byte seen
+unfolding session-object seen
 read-only-when c room store s acts h =
     let os = or-else (unpack store) [] in
     let ready = done-ready c room store s GetData acts h in
@@ -79,26 +107,29 @@ read-only-when c room store s acts h =
       | session-named byte k b n ↦
           let o = session-object (object-number c) k byte in
           let m = accepted-read c room store s os o ready acts n accepted in
-          of-session os byte ready (search (m, b)) (read-step c room store s os o ready acts n accepted)
+          let fits = rw (one-shown c byte) at (m .answer-fits) in
+          of-session os byte ready (search (m, b, fits)) (read-step c room store s os o ready acts n accepted ∙ byte-left c byte k room store (seen os (flushed c s)))
       -- a stored object is found, since step 9 passed
       | session-not-named out b ↦
           let p = object-named c room store s os GetData acts accepted in
           let there = sym (named-in-store (object-number c) (seen os (flushed c s)) out) ∙ p .there in
           let r = read-exactly-when c room store s os (p .object) ready acts there in
           let may = r .only-when h in
-          of-object os (p .object) ready there may (r .when may)
+          of-object os (p .object) ready there may (shown c (p .object .content)) (r .shows may) (r .when may)
     ]
 
 -- and the byte of an object of the session is shown whenever it may be
 pub byte-read-when : (c room store : List ℕ) (s : Session) (os : List Object) (byte : ℕ) → Ready room store s os → row c ≡ OnObject GetData →
-    MayReadByte c (length room) (flushed c s) byte → step c room store s ≡ bytes-shown c (byte ∷ []) room store (after-byte c (flushed c s))
-unfolding operation session-object after-byte seen holds
+    MayReadByte c (length room) (flushed c s) byte → step c room store s ≡ bytes-shown (byte-shown c byte) room store (after-byte c (flushed c s))
+unfolding session-object seen holds
 byte-read-when c room store s os byte r acts m =
     elim (which-named (object-number c) (seen os (flushed c s))) [
       | session-named other k b n ↦
           let same : other ≡ byte = let f = m .in-session in cc in
           let o = session-object (object-number c) k byte in
           let n′ = rw same at n in
-          read-step c room store s os o r acts n′ (read-accepted c room store s os o r acts n′ (search m))
+          let fits = rw (← one-shown c byte) at (m .answer-fits) in
+          read-step c room store s os o r acts n′ (read-accepted c room store s os o r acts n′ (search (m, fits))) ∙
+          byte-left c byte k room store (seen os (flushed c s))
       | session-not-named out b ↦ let f = m .in-session in let z : _≡_ {A = ℕ} 0 1 = cc in absurd (omega arith)
     ]

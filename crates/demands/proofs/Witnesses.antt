@@ -25,11 +25,11 @@ use Rattle.rules.specs.Factory.{entry, table, before-operational, made, factory
 use Rattle.rules.specs.Session.{with-opened, with-error}
 use Rattle.rules.specs.Metadata.{field, fields-bytes, led-by-20, read-fields, sent-fields, field-allowed, fields-allowed, metadata-allowed}
 use Rattle.rules.specs.Access.{seen, present, condition-holds, group-holds, groups-hold, holds}
-use Rattle.rules.specs.Operation.{put-at, write-fits}
+use Rattle.rules.specs.Operation.{shown, put-at, write-fits}
 use Rattle.rules.specs.Refusals.{ill-sized, wrong-length}
 use Rattle.rules.specs.Step.{flushed, step}
 use Rattle.rules.specs.Run.{Turn, Kept, reply, left, reads-or-writes}
-use Rattle.demands.specs.Demand.{is-done, Ready, well-formed, writes, content-allowed, changed, MayWrite, WritesExactly, MayRead, session-byte, MayReadByte, after-byte, Shown}
+use Rattle.demands.specs.Demand.{is-done, Ready, well-formed, writes, content-allowed, changed, MayWrite, WritesExactly, MayRead, session-byte, asks-byte, byte-shown, MayReadByte, after-byte, Shown}
 use Rattle.demands.specs.Demand.{Plain, Names, TwoLists}
 use Rattle.laws.proofs.Factory.{factory-sound}
 use Rattle.laws.proofs.Inverse.{unpack-pack}
@@ -50,7 +50,7 @@ F1D0 = made (entry 0xF1D0 140)
 
 -- `unfolding computed` opens what a record of assumptions speaks of
 computed : List Bool
-unfolding opened room F1D0 all among same rising-from rising ascii digits pairs hex asks-flush cmd param in-length in-data size-right table-line command-table line-in line-of row object-number offset asked-length sent-data step-byte sent-metadata is-state may-become seen present condition-holds group-holds groups-hold holds in-session find entry table before-operational made factory-objects fresh-session with-opened with-error field fields-bytes led-by-20 read-fields sent-fields field-allowed fields-allowed metadata-allowed with-content put-at write-fits kind-number is is-counter direction big-endian-4 big-endian-4-at moved at-or-past counted value threshold exhausted after-count ill-sized wrong-length flushed well-formed writes content-allowed changed session-byte reads-or-writes object-of
+unfolding opened room F1D0 all among same rising-from rising ascii digits pairs hex asks-flush cmd param in-length in-data size-right table-line command-table line-in line-of row object-number offset asked-length sent-data step-byte sent-metadata is-state may-become seen present condition-holds group-holds groups-hold holds in-session find entry table before-operational made factory-objects fresh-session with-opened with-error field fields-bytes led-by-20 read-fields sent-fields field-allowed fields-allowed metadata-allowed with-content shown put-at write-fits kind-number is is-counter direction big-endian-4 big-endian-4-at moved at-or-past counted value threshold exhausted after-count ill-sized wrong-length flushed well-formed writes content-allowed changed session-byte asks-byte byte-shown reads-or-writes object-of
 computed = []
 
 pub factory-ready : Ready room factory-store opened factory-objects
@@ -103,6 +103,26 @@ pub read-back : step P4 room written opened ≡
 unfolding computed P4 F1D0-written replaced
 read-back = read-exactly-when P4 room written opened (replaced F1D0-written factory-objects) F1D0-written written-ready refl refl .when may-read
 
+-- with a length past used: the same 17 bytes, in a room of 21, which the length asked does not fit
+unfoldable pub past-used : List ℕ
+past-used = hex "01 00 00 06 F1 D0 00 00 00 12"
+
+unfoldable pub just-room : List ℕ
+just-room = replicate 21 0xEE
+
+pub just-ready : Ready just-room written opened (replaced F1D0-written factory-objects)
+unfolding computed F1D0-written just-room
+just-ready = let r = written-ready in search (r, arith)
+
+pub may-read-short : MayRead past-used (length just-room) (seen (replaced F1D0-written factory-objects) opened) F1D0-written
+unfolding computed past-used just-room F1D0-written
+may-read-short = search arith
+
+pub short-read : step past-used just-room written opened ≡
+    record { outcome = 0; room = done-response (zeros 9 ++ hex "01 02 03 04 05 06 07 08"); store = written; session = opened }
+unfolding computed past-used just-room F1D0-written replaced put-in-front done-response
+short-read = read-exactly-when past-used just-room written opened (replaced F1D0-written factory-objects) F1D0-written just-ready refl refl .when may-read-short
+
 -- a read that is done, with nothing assumed
 pub P4-shown : Shown P4 room written opened (step P4 room written opened)
 unfolding computed P4 is-done done-response put-in-front
@@ -127,6 +147,19 @@ pub error-read : step P9 room factory-store erred ≡
     record { outcome = 0; room = put-in-front (done-response (0x07 ∷ [])) room; store = factory-store; session = opened }
 unfolding computed P9 erred after-byte
 error-read = byte-read-when P9 room factory-store erred factory-objects 0x07 erred-ready refl may-read-byte
+
+-- and at offset 1: nothing is shown, and the error stays
+unfoldable pub behind-error : List ℕ
+behind-error = hex "01 00 00 06 F1 C2 00 01 00 01"
+
+pub may-read-nothing : MayReadByte behind-error (length room) erred 0x07
+unfolding computed behind-error erred
+may-read-nothing = search arith
+
+pub error-kept : step behind-error room factory-store erred ≡
+    record { outcome = 0; room = put-in-front (done-response []) room; store = factory-store; session = erred }
+unfolding computed behind-error erred after-byte
+error-kept = byte-read-when behind-error room factory-store erred factory-objects 0x07 erred-ready refl may-read-nothing
 
 -- a counter of 255 trips to 300, and a count of 45 that brings it there
 unfoldable pub E120 : Object

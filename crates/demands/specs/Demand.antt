@@ -1,12 +1,12 @@
 -- The demands' own words about one command and about two lists.
-use Prim.Native.Nat.{ℕ, _+_, _/_, _%_, _≤_, _<_}
+use Prim.Native.Nat.{ℕ, _+_, _/_, _%_, _≤_, _<_, min}
 use mathlib.Core.Bool.{Bool, true, false, not, _&&_}
 use mathlib.Core.List.{List, [], _∷_}
 use mathlib.Core.Logic.{_⊎_}
 use mathlib.Core.Option.{Option, none, some}
 use mathlib.Core.Path.{_≡_}
 use lib.Dec.{eqb, leb}
-use lib.ListN.{length, getD, take, drop}
+use lib.ListN.{length, getD}
 use Rattle.mixing.specs.Runs.{All}
 use Rattle.rules.specs.declared.Session.{Session}
 use Rattle.rules.specs.declared.Refusal.{Refusal}
@@ -22,7 +22,7 @@ use Rattle.rules.specs.Layout.{unpack, pack, find, replaced}
 use Rattle.rules.specs.Session.{with-error}
 use Rattle.rules.specs.Metadata.{Field, fields-bytes, object-fields, led-by-20, metadata-allowed, sent-fields, with-fields}
 use Rattle.rules.specs.Access.{Seen, seen, holds}
-use Rattle.rules.specs.Operation.{put-at, write-fits}
+use Rattle.rules.specs.Operation.{shown, put-at, write-fits}
 use Rattle.rules.specs.Refusals.{ill-sized, wrong-length}
 use Rattle.rules.specs.Step.{After, raised, flushed}
 use Rattle.rules.specs.Run.{Turn, reads-or-writes}
@@ -118,21 +118,32 @@ pub record WritesExactly (a : Action) (c room store : List ℕ) (s : Session) (o
   pub only-when : is-done after ≡ true → MayWrite a c (seen os s) o
   pub else-kept : is-done after ≡ false → after .store ≡ store
 
--- when a data read shows data
+-- when a data read is answered
 pub record MayRead (c : List ℕ) (room : ℕ) (see : Seen) (o : Object) : Type 0 where
   pub command-well-formed : well-formed c ≡ true
   pub read-condition-holds : holds see (o .lcso) (o .read) ≡ true
-  pub within-used : offset c + asked-length c ≤ used o
-  pub answer-fits : 4 + asked-length c ≤ room
+  pub within-used : offset c ≤ used o
+  -- by the bytes to show, not by the length asked
+  pub answer-fits : 4 + length (shown c (o .content)) ≤ room
 
--- what stands after a data read that shows, of these bytes, those asked for
-abbrev pub bytes-shown : (c content room store : List ℕ) → Session → After
-bytes-shown c content room store s =
-    record { outcome = 0; room = put-in-front (done-response (take (asked-length c) (drop (offset c) content))) room; store = store; session = s }
+-- the bytes that a data read shows of those in use: how many, and which
+pub record Shows (c content out : List ℕ) : Type 0 where
+  -- from offset they reach to the smaller of used and offset + length
+  pub how-many : offset c + length out ≡ min (length content) (offset c + asked-length c)
+  -- each is the stored byte at its place
+  pub which : (i : ℕ) → i < length out → getD out i 0 ≡ getD content (offset c + i) 0
 
--- a data read shows exactly the stored bytes asked for, and only when the read condition holds; it changes nothing stored
+-- what stands after a data read that is answered with these bytes
+abbrev pub bytes-shown : (out room store : List ℕ) → Session → After
+bytes-shown out room store s = record { outcome = 0; room = put-in-front (done-response out) room; store = store; session = s }
+
+-- a data read shows exactly the stored bytes from offset to the smaller of used and offset + length, and only when the read condition holds; it
+-- changes nothing stored
 pub record ReadsExactly (c room store : List ℕ) (s : Session) (os : List Object) (o : Object) (after : After) : Type 0 where
-  pub when : MayRead c (length room) (seen os s) o → after ≡ bytes-shown c (o .content) room store (flushed c s)
+  pub when : MayRead c (length room) (seen os s) o → after ≡ bytes-shown (shown c (o .content)) room store (flushed c s)
+  -- those bytes it is, and no others can be
+  pub shows : MayRead c (length room) (seen os s) o → Shows c (o .content) (shown c (o .content))
+  pub nothing-else : (out : List ℕ) → Shows c (o .content) out → out ≡ shown c (o .content)
   pub only-when : is-done after ≡ true → MayRead c (length room) (seen os s) o
   pub store-kept : after .store ≡ store
 
@@ -144,24 +155,31 @@ session-byte n s =
     if eqb n 0xF1C2 then some (s .error) else
     none
 
+-- the byte of an object of the session is asked for, and what is then shown
+unfoldable pub asks-byte : List ℕ → Bool
+asks-byte c = eqb (offset c) 0 && leb 1 (asked-length c)
+
+unfoldable pub byte-shown : List ℕ → ℕ → List ℕ
+byte-shown c byte = if asks-byte c then byte ∷ [] else []
+
 -- when a data read of an object of the session is answered: its byte is readable at all times
 pub record MayReadByte (c : List ℕ) (room : ℕ) (s : Session) (byte : ℕ) : Type 0 where
   pub command-well-formed : well-formed c ≡ true
   pub in-session : session-byte (object-number c) s ≡ some byte
-  pub within-byte : offset c + asked-length c ≤ 1
-  pub answer-fits : 4 + asked-length c ≤ room
+  pub within-byte : offset c ≤ 1
+  pub answer-fits : 4 + length (byte-shown c byte) ≤ room
 
 -- the session after it: the last error is 0 where its byte was returned
 unfoldable pub after-byte : List ℕ → Session → Session
-after-byte c s = if eqb (object-number c) 0xF1C2 && leb 1 (asked-length c) then with-error 0 s else s
+after-byte c s = if eqb (object-number c) 0xF1C2 && asks-byte c then with-error 0 s else s
 
 -- what a data read that is done shows, with nothing assumed of store and session: they are sound, the application usable, the command
 -- well formed; and either the object is stored and its read condition holds, or it is one of the session's three
 pub data Shown (c room store : List ℕ) (s : Session) (after : After) : Type 0 where
   of-object : (os : List Object) (o : Object) → Ready room store s os → find (object-number c) os ≡ some o → MayRead c (length room) (seen os s) o →
-      after ≡ bytes-shown c (o .content) room store (flushed c s) → Shown c room store s after
+      (out : List ℕ) → Shows c (o .content) out → after ≡ bytes-shown out room store (flushed c s) → Shown c room store s after
   of-session : (os : List Object) (byte : ℕ) → Ready room store s os → MayReadByte c (length room) (flushed c s) byte →
-      after ≡ bytes-shown c (byte ∷ []) room store (after-byte c (flushed c s)) → Shown c room store s after
+      after ≡ bytes-shown (byte-shown c byte) room store (after-byte c (flushed c s)) → Shown c room store s after
 
 -- the send-back case: an object's metadata read back, without C4 and C5, and the command that sends it in -------------------
 

@@ -2,7 +2,7 @@
 -- lent (command, room, store, session) and what it left (answer, room, store).
 use Prim.Native.Nat.{ℕ, _<_}
 use mathlib.Core.Bool.{true}
-use mathlib.Core.List.{List, [], _∷_}
+use mathlib.Core.List.{List}
 use mathlib.Core.Option.{some}
 use mathlib.Core.Path.{_≡_, sym, subst, _∙_}
 use lib.ListN.{length}
@@ -14,7 +14,7 @@ use Rattle.rules.specs.Command.{row, object-number}
 use Rattle.rules.specs.Object.{Object}
 use Rattle.rules.specs.Layout.{find}
 use Rattle.rules.specs.Step.{After, flushed}
-use Rattle.demands.specs.Demand.{is-done, is-refused, SomeRefusal, Answered, Ready, writes, WritesExactly, ReadsExactly, MayReadByte, bytes-shown, after-byte, Shown}
+use Rattle.demands.specs.Demand.{is-done, is-refused, SomeRefusal, Answered, Ready, writes, WritesExactly, ReadsExactly, byte-shown, MayReadByte, bytes-shown, after-byte, Shown}
 use Rattle.demands.proofs.Demand1.{every-command-answered, no-room-changes-nothing, refusal-changes-last-error-only}
 use Rattle.demands.proofs.Demand2.{write-exactly-when, read-exactly-when}
 use Rattle.demands.proofs.Shown.{read-only-when, byte-read-when}
@@ -41,7 +41,7 @@ module _ (c room store : List ℕ) (s : Session) (r : Answer) (room′ store′ 
 
   -- demand 2: the byte of an object of the session is shown whenever it may be
   pub execute-shows-byte : (os : List Object) (byte : ℕ) → Ready room store s os → row c ≡ OnObject GetData → MayReadByte c (length room) (flushed c s) byte →
-      executed r room′ store′ ≡ bytes-shown c (byte ∷ []) room store (after-byte c (flushed c s))
+      executed r room′ store′ ≡ bytes-shown (byte-shown c byte) room store (after-byte c (flushed c s))
   execute-shows-byte os byte ready g m = call ∙ byte-read-when c room store s os byte ready g m
 
   module _ (os : List Object) (o : Object) (ready : Ready room store s os) (finds : find (object-number c) os ≡ some o) where

@@ -1,5 +1,5 @@
 -- From the parts to one command: the ways out of `perform`, `on_object`, `carry_out` and `execute`.
-use Prim.Native.Nat.{ℕ, _+_, _<_, _≤_}
+use Prim.Native.Nat.{ℕ, _<_, _≤_}
 use mathlib.Core.Path.{_≡_, refl, sym, ap, _∙_}
 use mathlib.Core.Bool.{Bool, true, false, false≢true}
 use mathlib.Core.List.{List, []}
@@ -19,7 +19,7 @@ use Rattle.rules.specs.declared.Action.the-variants.{GetData, GetMetadata, Writ
 use Rattle.rules.specs.declared.Row.{Row}
 use Rattle.rules.specs.declared.Row.the-variants.{OnObject, OpenApplication, CloseApplication, Unknown}
 use Rattle.rules.specs.Basic.{is-some, or-else}
-use Rattle.rules.specs.Command.{row, object-number, offset, asked-length}
+use Rattle.rules.specs.Command.{row, object-number, offset}
 use Rattle.rules.specs.Response.{code, done-response, refused-response, put-in-front}
 use Rattle.rules.specs.Object.{Object, used, of-session, object-allowed}
 use Rattle.rules.specs.Layout.{pack, unpack, found}
@@ -33,10 +33,9 @@ use Rattle.rules.specs.Step.{raised, declined, replacing, performed, answered, 
 use Rattle.laws.proofs.Tests.{some-else}
 use Rattle.laws.proofs.Facts.{allowed}
 use Rattle.laws.proofs.Inverse.{pack-unpack}
-use Rattle.laws.proofs.Verdicts.{passed, fitting-passed, fitting-accepts, LatePassed, late-passed}
+use Rattle.laws.proofs.Verdicts.{passed, both-accepted, fitting-passed, fitting-accepts, LatePassed, late-passed}
 use Rattle.laws.proofs.Fitting.{write-within, operation-fitting, operation-outside}
 use Rattle.laws.proofs.Views.{Alike, operation-alike, session-left}
-use Rattle.laws.proofs.Puts.{shown-length}
 use Rattle.record.specs.Places.{object-at, Stored}
 use Rattle.record.proofs.Standing.{standing}
 use Rattle.store.proofs.Placing.{recorded-there}
@@ -64,10 +63,9 @@ refused-by k r s t e f = f ∙ ap (λ n. raised n s) e
 -- an accepted get or set ----------------------------------------------------------------------------------------------------------
 
 -- what the verdict at an object of the session has told
-session-told : (a : Action) (c : List ℕ) (k : Kind) (byte room : ℕ) → session-verdict a c k byte room ≡ Accepted → InSessionMay a c room
-session-told GetData c k byte room h =
-    let p = passed _ _ _ h in
-    (leb-true (offset c + asked-length c) 1 (not-false _ (p .0)), fitting-passed (asked-length c) room (p .1))
+session-told : (a : Action) (c : List ℕ) (k : Kind) (byte room : ℕ) → session-verdict a c k byte room ≡ Accepted → InSessionMay a c byte room
+unfolding operation session-object
+session-told GetData c k byte room h = fitting-passed _ room (both-accepted _ _ h .1)
 session-told GetMetadata c k byte room h = absurd (not-accepted h)
 session-told Write c k byte room h = fitting-passed 0 room (passed _ _ _ (passed _ _ _ (passed _ _ _ h .1) .1) .1)
 session-told EraseAndWrite c k byte room h = fitting-passed 0 room (passed _ _ _ (passed _ _ _ (passed _ _ _ h .1) .1) .1)
@@ -78,8 +76,7 @@ session-told Count c k byte room h = absurd (not-accepted (passed _ _ _ h .1))
 record-told : (a : Action) (c : List ℕ) (o : Object) (see : Seen) (room : ℕ) → object-allowed o ≡ true → LatePassed a c o see room → OnRecordMay a c o room
 unfolding operation
 record-told GetData c o see room ok l =
-    let within = leb-true (offset c + asked-length c) (used o) (not-false _ (passed _ _ _ (l .own) .0)) in
-    (within, omega (arith, l .fits, shown-length c (o .content) within))
+    (leb-true (offset c) (used o) (not-false _ (passed _ _ _ (l .own) .0)), l .fits)
 record-told GetMetadata c o see room ok l = l .fits
 record-told Write c o see room ok l = (write-within o _ _ ok (not-false _ (passed _ _ _ (l .own) .0)) .within, l .fits)
 record-told EraseAndWrite c o see room ok l = (write-within o _ _ ok (not-false _ (passed _ _ _ (l .own) .0)) .within, l .fits)
@@ -87,7 +84,7 @@ record-told SetMetadata c o see room ok l = (not-false _ (passed _ _ _ (l .own) 
 record-told Count c o see room ok l = (not-false _ (passed _ _ _ (l .own) .0), l .fits)
 
 -- what is done at an object of the session does not depend on its kind, nor on stored objects
-session-alike : (a : Action) (c : List ℕ) (n byte room : ℕ) (k : Kind) (os : List Object) (s : Session) → InSessionMay a c room →
+session-alike : (a : Action) (c : List ℕ) (n byte room : ℕ) (k : Kind) (os : List Object) (s : Session) → InSessionMay a c byte room →
     (session-does a c n byte s .session ≡ operation a c (session-object n k byte) (seen os s) .session) ×
     (session-does a c n byte s .answer ≡ operation a c (session-object n k byte) (seen os s) .answer)
 unfolding operation session-object seen
@@ -107,7 +104,7 @@ module _ (a : Action) (c b : List ℕ) (s : Session) (aim : Target) (t : Placed 
 
   -- the verdict was: accepted
   module _ (room : ℕ) (h : late (ruling-on a c (target-object aim b) (seen-in b s)) room ≡ Accepted) where
-    pub session-may : (n : ObjectNumber) (k : Kind) (byte : ℕ) → aim ≡ InSession n k byte → InSessionMay a c room
+    pub session-may : (n : ObjectNumber) (k : Kind) (byte : ℕ) → aim ≡ InSession n k byte → InSessionMay a c byte room
     unfolding target-object
     session-may n k byte e =
         let of : of-session k ≡ true = rw e at t in

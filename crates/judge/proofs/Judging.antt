@@ -1,11 +1,11 @@
 -- Steps 10 to 13, action by action, at an object of the session and at a found record.
-use Prim.Native.Nat.{ℕ, _+_, _≤_}
+use Prim.Native.Nat.{ℕ, _+_, _-_, _≤_, min}
 use mathlib.Core.Path.{_≡_, refl, sym, ap, _∙_}
 use mathlib.Core.Bool.{Bool, true, false, not, _&&_}
 use mathlib.Core.List.{List}
 use native.Mathlib.Omega.{arith}
 use mathlib.Core.Option.{some}
-use borrow.Author.Tests.{eqb-true, leb-true, not-false}
+use borrow.Author.Tests.{eqb-true, not-false}
 use lib.Dec.{eqb, leb}
 use lib.ListN.{length, getD, take, drop}
 use lib.Seq.{getD-drop, take-all}
@@ -28,24 +28,21 @@ use Rattle.rules.specs.Metadata.{metadata-allowed}
 use Rattle.rules.specs.Session.{session-change, session-object}
 use Rattle.rules.specs.Chain.{_refused_or_, _and-then_}
 use Rattle.rules.specs.Access.{Seen, holds, asked, granted}
-use Rattle.rules.specs.Operation.{write-fits, value-allowed, operation}
+use Rattle.rules.specs.Operation.{shown, write-fits, value-allowed, operation}
 use Rattle.rules.specs.Refusals.{ruling-on, fitting, late}
 use Rattle.laws.proofs.Tests.{or-parts}
 use Rattle.laws.proofs.Puts.{shown-length}
 use Rattle.record.specs.Places.{object-at, Stored}
-use Rattle.command.proofs.Tests.{not-alike}
+use Rattle.laws.proofs.Calls.{not-alike}
 use Rattle.record.proofs.Standing.{stored-kind, stored-counter}
 use Rattle.judge.specs.declared.Target.{Target}
 use Rattle.judge.specs.declared.Target.the-variants.{InSession, InStore}
 use Rattle.judge.specs.Targets.{target-object, Placed}
-use Rattle.judge.specs.Verdicts.{get-verdict, write-verdict, state-verdict, session-count-verdict, session-verdict}
+use Rattle.judge.specs.Verdicts.{own-verdict, write-verdict, state-verdict, session-count-verdict, session-verdict}
 
 -- what the calls gave ---------------------------------------------------------------------------------------------------------
 
 module _ (c : List ℕ) (k : ℕ) (ek : k ≡ offset c) (q : Bool) (m : ℕ) where
-  pub asked-within : (n : ℕ) → n ≡ asked-length c → q ≡ leb (k + n) m → q ≡ leb (offset c + asked-length c) m
-  asked-within n en eq = cc
-
   pub sent-within : (d : List ℕ) → d ≡ sent-data c → q ≡ leb (k + length d) m → q ≡ leb (offset c + length (sent-data c)) m
   sent-within d ed eq = cc
 
@@ -106,6 +103,11 @@ pub session-by : (w v : Action) (c : List ℕ) (k : Kind) (byte room : ℕ) (r :
     r ≡ session-verdict w c k byte room
 session-by w v c k byte room r e f = rw e f
 
+pub session-get : (w : Action) (c : List ℕ) (k : Kind) (byte room : ℕ) (r : Verdict) → w ≡ GetData →
+    ((o : Object) → used o ≡ 1 → r ≡ own-verdict GetData c o room) → r ≡ session-verdict w c k byte room
+unfolding session-object
+session-get w c k byte room r e f = rw e (f (session-object 0 k byte) refl)
+
 -- an action's verdict, then step 13 ------------------------------------------------------------------------------------------
 
 pub then-later : (t : Bool) (r : Refusal) (v w : Verdict) → ((t refused r or v) and-then w) ≡ (t refused r or (v and-then w))
@@ -133,14 +135,13 @@ module _ (c : List ℕ) (o : Object) (see : Seen) (room : ℕ) where
   unfolding late ruling-on
   judged a = then-later _ _ _ _
 
-  -- a get's answer is as long as asked, where it is within
-  get-own : get-verdict c (used o) room ≡ own GetData
-  unfolding operation _refused_or_ _and-then_
-  get-own = by (leb (offset c + asked-length c) (used o)) refl
-    where
-      by : (t : Bool) → leb (offset c + asked-length c) (used o) ≡ t → get-verdict c (used o) room ≡ own GetData
-      by true e = rw (e, shown-length c (o .content) (leb-true _ _ e))
-      by false e = rw e
+-- a get, by what the calls gave
+pub get-judged : (c : List ℕ) (o : Object) (k n u room : ℕ) (r : Verdict) → k ≡ offset c → n ≡ asked-length c → used o ≡ u →
+    r ≡ (not (leb k u) refused BoundaryExceeded or fitting (min u (k + n) - k) room) → r ≡ own-verdict GetData c o room
+unfolding operation _and-then_
+get-judged c o k n u room r ek en eu f =
+    let many : length (shown c (o .content)) ≡ min u (k + n) - k = omega (arith, ek, en, eu, shown-length c (o .content)) in
+    rw (then-later, many, ← ek, eu) f
 
 -- at an object of the session -----------------------------------------------------------------------------------------------
 
@@ -172,7 +173,7 @@ count-judged c n byte k see room = by (is LifeCycle k) refl
 module _ (c : List ℕ) (n byte : ℕ) (k : Kind) (see : Seen) (room : ℕ) (of : of-session k ≡ true) where
   pub session-judged : (a : Action) → session-verdict a c k byte room ≡ late (ruling-on a c (some (session-object n k byte)) see) room
   unfolding late ruling-on operation granted asked session-object holds _refused_or_ _and-then_
-  session-judged GetData = get-own c (session-object n k byte) see room ∙ sym (judged c (session-object n k byte) see room GetData)
+  session-judged GetData = sym (judged c (session-object n k byte) see room GetData)
   session-judged GetMetadata = rw of
   session-judged Write = state-judged c n byte k see room
   session-judged EraseAndWrite = state-judged c n byte k see room
@@ -190,8 +191,10 @@ module _ (p : ℕ) (b c : List ℕ) (room : ℕ) (r : Verdict) where
     pub own-by : (a v : Action) → a ≡ v → r ≡ own c (object-at p b) see room v → r ≡ own c (object-at p b) see room a
     own-by a v e f = rw e f
 
-    pub stored-get : (u : ℕ) → u ≡ used (object-at p b) → r ≡ get-verdict c u room → r ≡ own c (object-at p b) see room GetData
-    stored-get u eu f = cc (get-own c (object-at p b) see room)
+    pub stored-get : (u : ℕ) → u ≡ used (object-at p b) → ((o : Object) → used o ≡ u → r ≡ own-verdict GetData c o room) →
+        r ≡ own c (object-at p b) see room GetData
+    unfolding operation
+    stored-get u eu f = f (object-at p b) (sym eu)
 
   -- of either action that writes
   pub stored-write : Stored p b → r ≡ write-verdict c (object-at p b) room →

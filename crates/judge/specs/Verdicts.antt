@@ -11,10 +11,11 @@ use Rattle.rules.specs.declared.Action.the-variants.{GetData, GetMetadata, Writ
 use Rattle.rules.specs.declared.Refusal.the-variants.{InvalidParam, AccessDenied, BoundaryExceeded, InvalidData}
 use Rattle.rules.specs.declared.Verdict.{Verdict}
 use Rattle.rules.specs.declared.Verdict.the-variants.{Refused}
-use Rattle.rules.specs.Command.{offset, asked-length, sent-data}
+use Rattle.rules.specs.Command.{offset, sent-data}
 use Rattle.rules.specs.Expression.{may-become}
 use Rattle.rules.specs.Object.{Object, is}
 use Rattle.rules.specs.Factory.{fresh-session}
+use Rattle.rules.specs.Session.{session-object}
 use Rattle.rules.specs.Chain.{_refused_or_, _and-then_}
 use Rattle.rules.specs.Access.{seen}
 use Rattle.rules.specs.Operation.{write-fits, operation}
@@ -25,12 +26,6 @@ abbrev pub own-verdict : Action → List ℕ → Object → ℕ → Verdict
 own-verdict a c o room =
     let p = operation a c o (seen [] fresh-session) in
     p .verdict and-then fitting (length (p .answer)) room
-
--- a get of data, where `limit` bytes are used
-abbrev pub get-verdict : List ℕ → ℕ → ℕ → Verdict
-get-verdict c limit room =
-    not (leb (offset c + asked-length c) limit) refused BoundaryExceeded or
-    fitting (asked-length c) room
 
 -- a write of data to a stored object, which takes any value
 abbrev pub write-verdict : List ℕ → Object → ℕ → Verdict
@@ -52,9 +47,9 @@ session-count-verdict k =
     is LifeCycle k refused InvalidParam or
     Refused AccessDenied
 
--- each action at an object of the session, access included
+-- each action at an object of the session, access included; the number of the object read does not count
 abbrev pub session-verdict : Action → List ℕ → Kind → ℕ → ℕ → Verdict
-session-verdict GetData c k byte room = get-verdict c 1 room
+session-verdict GetData c k byte room = own-verdict GetData c (session-object 0 k byte) room
 session-verdict GetMetadata c k byte room = Refused AccessDenied
 session-verdict Write c k byte room = state-verdict c k byte room
 session-verdict EraseAndWrite c k byte room = state-verdict c k byte room

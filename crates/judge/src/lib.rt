@@ -14,10 +14,10 @@ ghost use mathlib.Core.Option.{some};
 ghost use Prim.Native.Nat.{_≤_};
 ghost use lib.ListN.{length};
 ghost use Rattle.rules.specs.declared.Kind.the-variants.{LifeCycle};
-ghost use Rattle.rules.specs.declared.Action.the-variants.{SetMetadata, Count};
+ghost use Rattle.rules.specs.declared.Action.the-variants.{GetData, SetMetadata, Count};
 ghost use Rattle.rules.specs.Basic.{is-some};
 ghost use Rattle.rules.specs.Command.{object-number, offset, sent-data};
-ghost use Rattle.rules.specs.Object.{is, is-counter, direction};
+ghost use Rattle.rules.specs.Object.{Object, used, is, is-counter, direction};
 ghost use Rattle.rules.specs.Layout.{unpack};
 ghost use Rattle.rules.specs.Counter.{exhausted};
 ghost use Rattle.rules.specs.Access.{seen-in, named};
@@ -26,7 +26,7 @@ ghost use Rattle.rules.specs.Refusals.{ruling-on, late};
 ghost use Rattle.command.specs.Table.{InFull};
 ghost use Rattle.record.specs.Places.{object-at, Stored};
 ghost use Rattle.judge.specs.Targets.{target-object, Placed};
-ghost use Rattle.judge.specs.Verdicts.{get-verdict, write-verdict, state-verdict, own-verdict, session-count-verdict, session-verdict};
+ghost use Rattle.judge.specs.Verdicts.{write-verdict, state-verdict, own-verdict, session-count-verdict, session-verdict};
 
 // What a get or set names: an object of the session (its number, kind and byte), a record's place, or nothing.
 pub enum Target {
@@ -57,16 +57,13 @@ pub fn find_target(command: &[u8], store: &[u8], session: Session) -> Target
     Target::InStore(at)
 }
 
-// Steps 11 and 13 of a get of data, from an object of which `limit` bytes are used.
-fn judge_get(command: &[u8], limit: Length, room: usize) -> Verdict
+// Steps 11 and 13 of a get of data, from any object of which so many bytes are in use.
+fn judge_get(command: &[u8], in_use: Length, room: usize) -> Verdict
     requires { ⌜ 10 ≤ length (now command) ⌝ }
-    ensures { λ r. ⌜ r ≡ get-verdict (now (command .entry)) (limit .0) room ⌝ }
+    ensures { λ r. ⌜ ((o : Object) → used o ≡ in_use .0 → r ≡ own-verdict GetData (now (command .entry)) o room) ⌝ }
 {
-    let count = command::asked_length(command);
-    if !command::fits(command::offset(command), count, limit) {
-        return Verdict::Refused(Refusal::BoundaryExceeded);
-    }
-    command::fitting(count, room)
+    let from = command::offset(command);
+    bounds::judge_read(from, command::asked_length(command), in_use, room)
 }
 
 // Whether what is sent fits the object of a found record: a counter takes all of its bytes at once.
@@ -80,7 +77,7 @@ fn write_fits(command: &[u8], store: &[u8], at: usize) -> bool
     if record::is_counter(store, at) {
         return primitives::and(from.0 == 0, count.0 == counter::SIZE);
     }
-    command::fits(from, count, record::maximum_at(store, at))
+    bounds::fits(from, count, record::maximum_at(store, at))
 }
 
 // Steps 11 and 13 of a write of data to a found record.
@@ -91,7 +88,7 @@ fn judge_write(command: &[u8], store: &[u8], at: usize, room: usize) -> Verdict
     if !write_fits(command, store, at) {
         return Verdict::Refused(Refusal::BoundaryExceeded);
     }
-    command::fitting(Length(0), room)
+    bounds::fitting(Length(0), room)
 }
 
 // Whether the counter of a found record is at or past its threshold: its bytes are a part of the store.
@@ -118,7 +115,7 @@ fn judge_count(command: &[u8], store: &[u8], at: usize, room: usize) -> Verdict
     if exhausted(store, at) {
         return Verdict::Refused(Refusal::BoundaryExceeded);
     }
-    command::fitting(Length(0), room)
+    bounds::fitting(Length(0), room)
 }
 
 // Whether the kind is that of a life cycle: another object of the session may not be written.
@@ -139,7 +136,7 @@ fn judge_state(command: &[u8], kind: Kind, byte: u8, room: usize) -> Verdict
     ensures { λ r. ⌜ r ≡ state-verdict (now (command .entry)) kind byte room ⌝ }
 {
     let data = command::sent_data(command);
-    let within = command::fits(command::offset(command), Length(data.len()), Length(1));
+    let within = bounds::fits(command::offset(command), Length(data.len()), Length(1));
     if !is_life_cycle(kind) {
         return Verdict::Refused(Refusal::AccessDenied);
     }
@@ -149,7 +146,7 @@ fn judge_state(command: &[u8], kind: Kind, byte: u8, room: usize) -> Verdict
     if !expression::may_become(byte, command[8]) {
         return Verdict::Refused(Refusal::InvalidData);
     }
-    command::fitting(Length(0), room)
+    bounds::fitting(Length(0), room)
 }
 
 // A count of an object of the session: a life cycle is no counter, and another one may not be changed.
@@ -187,7 +184,7 @@ fn judge_metadata(command: &[u8], store: &[u8], at: usize, room: usize) -> Verdi
     if !content::content_allowed(content, stored) {
         return Verdict::Refused(Refusal::InvalidData);
     }
-    command::fitting(Length(0), room)
+    bounds::fitting(Length(0), room)
 }
 
 // Steps 10 to 13 at a found record.
@@ -208,7 +205,7 @@ fn judge_stored(
     }
     match asked {
         Action::GetData => judge_get(command, record::used_at(store, at), room),
-        Action::GetMetadata => command::fitting(answer::answer_length(store, at), room),
+        Action::GetMetadata => bounds::fitting(answer::answer_length(store, at), room),
         Action::Write => judge_write(command, store, at, room),
         Action::EraseAndWrite => judge_write(command, store, at, room),
         Action::SetMetadata => judge_metadata(command, store, at, room),

@@ -1,5 +1,6 @@
 -- What follows from the rules, each file on what those before it say.
 pub mod Tests
+pub mod Calls
 pub mod Expressions
 pub mod Facts
 pub mod Inverse

@@ -1,14 +1,15 @@
 -- Bytes put at an offset, byte by byte: the bytes sent stand at the offset, all others stay, a gap reads as zero, and used becomes the
--- larger of used and offset + length. How many bytes a read shows.
-use Prim.Native.Nat.{ℕ, zero, suc, _+_, _-_, _≤_, _<_, max}
+-- larger of used and offset + length. How many bytes a read shows, and which.
+use Prim.Native.Nat.{ℕ, zero, suc, _+_, _-_, _<_, max, min}
 use mathlib.Core.List.{List, [], _∷_, _++_, append-assoc}
 use mathlib.Core.Path.{_≡_, refl, sym, ap, _∙_}
+use native.Mathlib.Nat.{sub-zero, zero-sub, suc-sub-suc}
 use native.Mathlib.Omega.{arith}
 use lib.ListN.{length, getD, take, drop, length-append, length-take, length-drop, length-replicate, List·getD-append}
-use lib.Seq.{getD-append-add, getD-take, getD-drop}
+use lib.Seq.{getD-append-add, getD-take, getD-drop, take-nil, slice, length-slice}
 use Rattle.rules.specs.Basic.{zeros}
 use Rattle.rules.specs.Command.{offset, asked-length}
-use Rattle.rules.specs.Operation.{put-at}
+use Rattle.rules.specs.Operation.{shown, put-at}
 
 zeros-zero : (n i : ℕ) → getD (zeros n) i 0 ≡ 0
 zeros-zero zero i = refl
@@ -53,6 +54,28 @@ module _ (k : ℕ) (b old : List ℕ) where
   pub put-after : (i : ℕ) → getD (put-at k b old) (k + (length b + i)) 0 ≡ getD old (k + length b + i) 0
   put-after i = behind (length b + i) ∙ getD-append-add b (drop (k + length b) old) i 0 ∙ getD-drop (k + length b) old i 0
 
--- as many bytes as asked for, where they are there
-pub shown-length : (c content : List ℕ) → offset c + asked-length c ≤ length content → length (take (asked-length c) (drop (offset c) content)) ≡ asked-length c
-shown-length c content h = simp (length-take, length-drop) (omega arith)
+-- what a read shows -------------------------------------------------------------------------------------------------------
+
+-- a part in the middle, by where it begins and how long it is
+slice-part : (k end : ℕ) (b : List ℕ) → take (end - k) (drop k b) ≡ slice k end b
+slice-part zero end b = rw sub-zero
+slice-part (suc k) zero b = rw zero-sub
+slice-part (suc k) (suc end) [] = take-nil (suc end - suc k)
+slice-part (suc k) (suc end) (x ∷ b) = rw suc-sub-suc (slice-part k end b)
+
+module _ (c content : List ℕ) where
+  -- as many bytes as there are from offset to the smaller of used and offset + length
+  pub shown-length : length (shown c content) ≡ min (length content) (offset c + asked-length c) - offset c
+  unfolding shown
+  shown-length = length-slice (offset c) _ content (omega arith)
+
+  -- each is the stored one at its place
+  pub shown-there : (i : ℕ) → i < length (shown c content) → getD (shown c content) i 0 ≡ getD content (offset c + i) 0
+  unfolding shown
+  shown-there i h =
+      let within : offset c + i < min (length content) (offset c + asked-length c) = omega (arith, h, shown-length) in
+      getD-drop (offset c) _ i 0 ∙ getD-take _ content (offset c + i) 0 within
+
+  pub shown-part : take (min (length content) (offset c + asked-length c) - offset c) (drop (offset c) content) ≡ shown c content
+  unfolding shown
+  shown-part = slice-part (offset c) _ content

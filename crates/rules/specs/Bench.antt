@@ -1,11 +1,11 @@
--- The bench sheet: P1 to P12 as one table, its other lines, and the six slips; then lists of commands, and counters.
+-- The bench sheet: P1 to P12 as one table, its other lines, and the six slips; then short reads, lists of commands, and counters.
 use Prim.Native.Nat.{ℕ}
 use mathlib.Core.Bool.{true, false}
 use mathlib.Core.List.{List, [], _∷_, _++_}
 use Rattle.rules.specs.Basic.{zeros}
 use Rattle.rules.specs.Hex.{hex, ascii}
 use Rattle.rules.specs.Factory.{factory-store, fresh-session}
-use Rattle.rules.specs.Cases.{session, opened, closed, _gives_, _refused_leaving_, done-empty, turn, told}
+use Rattle.rules.specs.Cases.{session, opened, closed, _gives_, _refused_leaving_, in-room, done-empty, turn, told}
 use Rattle.rules.specs.Cases.{Case, talk, judge, begins, reads-writes, runs, prints}
 use Rattle.rules.specs.Stores.{by-hand, second-record, third-record, three, up-counter, down-counter}
 
@@ -27,8 +27,8 @@ cases =
     talk factory-store (opened 0x00)
     (hex "02 00 00 0C F1 D0 00 09 01 02 03 04 05 06 07 08" gives done-empty ∷
     hex "01 00 00 06 F1 D0 00 00 00 11" gives (hex "00 00 00 11" ++ zeros 9 ++ hex "01 02 03 04 05 06 07 08") ∷
-    hex "01 00 00 06 F1 D0 00 00 00 12" refused 0x08 leaving 0x08 ∷ [])
-    (opened 0x08) ∷
+    hex "01 00 00 06 F1 D0 00 00 00 12" gives (hex "00 00 00 11" ++ zeros 9 ++ hex "01 02 03 04 05 06 07 08") ∷ [])
+    (opened 0x00) ∷
     -- P5, P6
     talk factory-store (opened 0x00)
     (hex "02 00 00 0C F1 D0 00 84 01 02 03 04 05 06 07 08" gives done-empty ∷
@@ -46,7 +46,7 @@ cases =
     (opened 0x00) ∷
     -- P10
     talk factory-store (opened 0x00)
-    (hex "01 00 00 06 F1 D0 00 00 00 01" refused 0x08 leaving 0x08 ∷
+    (hex "01 00 00 06 F1 D0 00 01 00 01" refused 0x08 leaving 0x08 ∷
     hex "01 00 00 06 AB CD 00 00 00 01" refused 0x01 leaving 0x08 ∷
     hex "01 00 00 06 F1 C2 00 00 00 01" gives hex "00 00 00 01 08" ∷ [])
     (opened 0x00) ∷
@@ -105,8 +105,8 @@ slip-cases =
     (hex "05 00 00 00" refused 0x0A leaving 0x0A ∷
     hex "71 00 00 00" gives done-empty ∷
     open-command gives done-empty ∷
-    hex "01 00 00 06 F1 D0 00 00 00 01" refused 0x08 leaving 0x0A ∷
-    hex "81 00 00 06 F1 D0 00 00 00 01" refused 0x08 leaving 0x08 ∷ [])
+    hex "01 00 00 06 F1 D0 00 01 00 01" refused 0x08 leaving 0x0A ∷
+    hex "81 00 00 06 F1 D0 00 01 00 01" refused 0x08 leaving 0x08 ∷ [])
     (opened 0x08) ∷
     -- 6: where the last tag is bad, none is stored
     talk factory-store (opened 0x00)
@@ -123,15 +123,46 @@ slip-cases =
     talk factory-store (opened 0x00)
     (hex "02 00 00 07 F1 D0 00 00 01 02 03" gives done-empty ∷
     hex "02 40 00 05 F1 D0 00 01 09" gives done-empty ∷
-    hex "01 00 00 06 F1 D0 00 00 00 02" gives hex "00 00 00 02 00 09" ∷
-    hex "01 00 00 06 F1 D0 00 00 00 03" refused 0x08 leaving 0x08 ∷ [])
-    (opened 0x08) ∷
+    hex "01 00 00 06 F1 D0 00 00 00 03" gives hex "00 00 00 02 00 09" ∷ [])
+    (opened 0x00) ∷
     -- a life cycle may not fall
     talk factory-store (opened 0x00)
     (hex "02 00 00 05 E0 C0 00 00 07" gives done-empty ∷
     hex "02 40 00 05 E0 C0 00 00 03" refused 0x05 leaving 0x05 ∷
     hex "01 00 00 06 E0 C0 00 00 00 01" gives hex "00 00 00 01 07" ∷ [])
     (session true 0x07 0x01 0x05) ∷ []
+
+-- short reads
+unfoldable pub short-cases : List Case
+short-cases =
+    -- of three bytes in use, those from offset to the smaller of used and offset + length; only an offset above used is 08
+    talk three (opened 0x00)
+    (hex "01 00 00 06 F1 D0 00 00 00 04" gives hex "00 00 00 03 0A 0B 0C" ∷
+    hex "01 00 00 06 F1 D0 00 01 FF FF" gives hex "00 00 00 02 0B 0C" ∷
+    hex "01 00 00 06 F1 D0 00 01 00 01" gives hex "00 00 00 01 0B" ∷
+    hex "01 00 00 06 F1 D0 00 02 00 02" gives hex "00 00 00 01 0C" ∷
+    hex "01 00 00 06 F1 D0 00 02 00 00" gives done-empty ∷
+    hex "01 00 00 06 F1 D0 00 03 00 05" gives done-empty ∷
+    hex "01 00 00 06 F1 D0 00 04 00 05" refused 0x08 leaving 0x08 ∷
+    hex "01 00 00 06 F1 D0 00 04 00 00" refused 0x08 leaving 0x08 ∷ [])
+    (opened 0x08) ∷
+    -- step 13 looks at the shortened answer
+    talk three (opened 0x00)
+    (in-room 7 (hex "01 00 00 06 F1 D0 00 00 FF FF" gives hex "00 00 00 03 0A 0B 0C") ∷
+    in-room 4 (hex "01 00 00 06 F1 D0 00 03 FF FF" gives done-empty) ∷
+    in-room 6 (hex "01 00 00 06 F1 D0 00 00 FF FF" refused 0x0D leaving 0x0D) ∷ [])
+    (opened 0x0D) ∷
+    -- the session's one-byte objects; F1C2 is cleared only when its byte is returned
+    talk three (session true 0x03 0x07 0x0A)
+    (hex "01 00 00 06 E0 C0 00 00 12 34" gives hex "00 00 00 01 03" ∷
+    hex "01 00 00 06 F1 C0 00 01 00 01" gives done-empty ∷
+    hex "01 00 00 06 F1 C0 00 02 00 00" refused 0x08 leaving 0x0A ∷
+    hex "01 00 00 06 F1 C2 00 01 00 05" gives done-empty ∷
+    hex "01 00 00 06 F1 C2 00 00 00 00" gives done-empty ∷
+    in-room 4 (hex "01 00 00 06 F1 C2 00 00 00 09" refused 0x0D leaving 0x0D) ∷
+    hex "01 00 00 06 F1 C2 00 00 00 09" gives hex "00 00 00 01 0D" ∷
+    hex "01 00 00 06 F1 C2 00 00 FF FF" gives hex "00 00 00 01 00" ∷ [])
+    (session true 0x03 0x07 0x00) ∷ []
 
 -- lists of commands
 unfoldable pub run-cases : List Case
@@ -144,7 +175,7 @@ run-cases =
     (turn (hex "02 00 00 05 F1 D0 00 03 AA") (hex "EE EE EE EE EE") ∷
     turn (hex "01 00 00 06 F1 D0 00 02 00 02") (hex "11 22 33 44 55 66 77") ∷
     turn (hex "01 00 00 06 F1 D0 00 02 00 02") (hex "11 22 33") ∷
-    turn (hex "01 00 00 06 F1 D0 00 02 00 03") (hex "11 22 33 44 55") ∷
+    turn (hex "01 00 00 06 F1 D0 00 05 00 03") (hex "11 22 33 44 55") ∷
     turn (hex "02 01 00 07 F1 D0 20 03 C0 01 07") (hex "EE EE EE EE") ∷
     turn (hex "02 00 00 05 F1 D0 00 00 BB") (hex "EE EE EE EE EE") ∷
     turn (hex "01 00 00 06 F1 D0 00 00 00 01") (hex "EE EE EE EE EE") ∷ [])

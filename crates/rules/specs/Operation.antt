@@ -1,10 +1,11 @@
 -- Reading, writing and counting: what each action refuses of an object beyond access, answers and changes.
-use Prim.Native.Nat.{ℕ, _+_, _-_}
+use Prim.Native.Nat.{ℕ, _+_, _-_, min}
 use mathlib.Core.Bool.{Bool, not, _&&_, _||_}
 use mathlib.Core.List.{List, [], _++_}
 use mathlib.Core.Option.{Option, none, some}
 use lib.Dec.{eqb, leb}
 use lib.ListN.{length, getD, take, drop}
+use lib.Seq.{slice}
 use Rattle.rules.specs.declared.Session.{Session}
 use Rattle.rules.specs.declared.Kind.the-variants.{LifeCycle}
 use Rattle.rules.specs.declared.Action.{Action}
@@ -31,17 +32,21 @@ pub record Operation : Type 0 where
   pub stores : Option Object
   pub session : Session
 
--- Length 0 answers no data if offset is at most used.
+-- of the bytes in use, those from offset to the smaller of used and offset + length
+unfoldable pub shown : List ℕ → List ℕ → List ℕ
+shown c content = slice (offset c) (min (length content) (offset c + asked-length c)) content
+
+-- only an offset above used is 08
 unfoldable pub getting : List ℕ → Object → Seen → Operation
 getting c o see =
     record {
       verdict =
-          not (leb (offset c + asked-length c) (used o)) refused BoundaryExceeded or  -- 11: 08
+          not (leb (offset c) (used o)) refused BoundaryExceeded or  -- 11: 08
           Accepted;
-      answer = take (asked-length c) (drop (offset c) (o .content));
+      answer = shown c (o .content);
       stores = none;
-      -- a get that returns the byte of F1C2 then sets it to 0
-      session = if eqb (o .number) 0xF1C2 && leb 1 (asked-length c) then with-error 0 (see .session) else see .session;
+      -- a get that returns the byte of F1C2 then sets it to 0; another one does not
+      session = if eqb (o .number) 0xF1C2 && leb 1 (length (shown c (o .content))) then with-error 0 (see .session) else see .session;
     }
 
 unfoldable pub getting-metadata : Object → Seen → Operation

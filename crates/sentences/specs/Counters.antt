@@ -166,7 +166,9 @@ counter-write-cases =
     -- get of data, metadata and LcsO are as for other objects
     talk (trips ++ unreadable) (opened 0x00)
     (hex "01 00 00 06 E1 20 00 03 00 05" gives hex "00 00 00 05 FF 00 00 01 2C" ∷
-    hex "01 00 00 06 E1 20 00 00 00 09" refused 0x08 leaving 0x08 ∷
+    hex "01 00 00 06 E1 20 00 04 00 05" gives hex "00 00 00 04 00 00 01 2C" ∷
+    hex "01 00 00 06 E1 20 00 08 00 01" gives done-empty ∷
+    hex "01 00 00 06 E1 20 00 09 00 00" refused 0x08 leaving 0x08 ∷
     hex "01 00 00 06 E1 23 00 00 00 08" refused 0x07 leaving 0x08 ∷
     hex "01 01 00 02 E1 20" gives hex "00 00 00 16 20 14 C0 01 01 C4 02 00 08 C5 02 00 08 D0 01 00 D1 01 00 D3 01 00" ∷
     hex "02 01 00 0A E1 20 20 06 C0 01 07 D0 01 FF" gives done-empty ∷

@@ -196,11 +196,11 @@ object-cases =
     hex "02 01 00 04 F1 D2 21 00" refused 0x07 leaving 0x07 ∷
     in-room 4 (hex "01 00 00 06 F1 D1 00 00 00 03" refused 0x07 leaving 0x07) ∷ [])
     (opened 0x07) ∷
-    -- 11: offset + length above used for a get, above maximum for a write; before steps 12 and 13
+    -- 11: offset above used for a get, offset + length above maximum for a write, whatever the room; before step 12
     talk three (opened 0x00)
-    (hex "01 00 00 06 F1 D0 00 00 00 03" gives hex "00 00 00 03 0A 0B 0C" ∷
-    hex "01 00 00 06 F1 D0 00 00 00 04" refused 0x08 leaving 0x08 ∷
-    hex "01 00 00 06 F1 D0 00 03 00 01" refused 0x08 leaving 0x08 ∷
+    (hex "01 00 00 06 F1 D0 00 03 00 01" gives done-empty ∷
+    hex "01 00 00 06 F1 D0 00 04 00 01" refused 0x08 leaving 0x08 ∷
+    hex "01 00 00 06 F1 D0 00 04 00 00" refused 0x08 leaving 0x08 ∷
     hex "01 00 00 06 F1 D0 FF FF FF FF" refused 0x08 leaving 0x08 ∷
     hex "01 00 00 06 F1 D0 FF FF 00 01" refused 0x08 leaving 0x08 ∷
     hex "02 00 00 05 F1 D0 00 04 AA" refused 0x08 leaving 0x08 ∷
@@ -211,7 +211,7 @@ object-cases =
     hex "02 40 00 08 F1 D0 00 00 01 02 03 04" gives done-empty ∷
     hex "02 00 00 06 E0 C0 00 00 02 02" refused 0x08 leaving 0x08 ∷
     hex "02 40 00 05 F1 C0 00 01 02" refused 0x08 leaving 0x08 ∷
-    in-room 4 (hex "01 00 00 06 F1 D0 00 00 00 05" refused 0x08 leaving 0x08) ∷ [])
+    in-room 4 (hex "01 00 00 06 F1 D0 00 05 00 05" refused 0x08 leaving 0x08) ∷ [])
     (opened 0x08) ∷
     -- 12: metadata or life cycle value not allowed
     talk three (opened 0x00)
@@ -226,9 +226,21 @@ object-cases =
     in-room 4 (hex "01 00 00 06 F1 D0 00 00 00 00" gives done-empty) ∷
     in-room 4 (hex "01 00 00 06 E0 C0 00 00 00 01" refused 0x0D leaving 0x0D) ∷ [])
     (opened 0x0D) ∷
+    -- of a get that asks for more than is there: the shortened answer
+    talk three (opened 0x00)
+    (in-room 7 (hex "01 00 00 06 F1 D0 00 00 00 04" gives hex "00 00 00 03 0A 0B 0C") ∷
+    in-room 7 (hex "01 00 00 06 F1 D0 00 00 FF FF" gives hex "00 00 00 03 0A 0B 0C") ∷
+    in-room 5 (hex "01 00 00 06 F1 D0 00 02 FF FF" gives hex "00 00 00 01 0C") ∷
+    in-room 4 (hex "01 00 00 06 F1 D0 00 03 FF FF" gives done-empty) ∷
+    in-room 5 (hex "01 00 00 06 E0 C0 00 00 FF FF" gives hex "00 00 00 01 01") ∷
+    in-room 4 (hex "01 00 00 06 F1 C0 00 01 FF FF" gives done-empty) ∷
+    in-room 6 (hex "01 00 00 06 F1 D0 00 00 FF FF" refused 0x0D leaving 0x0D) ∷
+    in-room 4 (hex "01 00 00 06 F1 D0 00 02 FF FF" refused 0x0D leaving 0x0D) ∷
+    in-room 4 (hex "01 00 00 06 E0 C0 00 00 00 02" refused 0x0D leaving 0x0D) ∷ [])
+    (opened 0x0D) ∷
     -- the larger of the last error and the code
     talk three (opened 0x08)
-    (hex "01 00 00 06 F1 D0 00 00 00 04" refused 0x08 leaving 0x08 ∷
+    (hex "01 00 00 06 F1 D0 00 04 00 00" refused 0x08 leaving 0x08 ∷
     hex "01 02 00 00" refused 0x03 leaving 0x08 ∷
     hex "72 00 00 00" refused 0x0A leaving 0x0A ∷ [])
     (opened 0x0A) ∷
@@ -366,23 +378,34 @@ session-cases =
     hex "01 00 00 06 F1 C0 00 00 00 01" gives hex "00 00 00 01 07" ∷
     hex "01 00 00 06 F1 C2 00 00 00 01" gives hex "00 00 00 01 0A" ∷ [])
     (session true 0x03 0x07 0x00) ∷
+    -- offset 0 with any length of 1 or more answers the byte, offset 1 answers nothing, offset 2 is 08
     talk three (opened 0x00)
-    (hex "01 00 00 06 E0 C0 00 00 00 02" refused 0x08 leaving 0x08 ∷
-    hex "01 00 00 06 F1 C0 00 01 00 01" refused 0x08 leaving 0x08 ∷
+    (hex "01 00 00 06 E0 C0 00 00 00 02" gives hex "00 00 00 01 01" ∷
+    hex "01 00 00 06 F1 C0 00 00 FF FF" gives hex "00 00 00 01 01" ∷
+    hex "01 00 00 06 E0 C0 00 00 00 00" gives done-empty ∷
     hex "01 00 00 06 E0 C0 00 01 00 00" gives done-empty ∷
-    hex "01 00 00 06 F1 C0 00 02 00 00" refused 0x08 leaving 0x08 ∷ [])
+    hex "01 00 00 06 F1 C0 00 01 00 01" gives done-empty ∷
+    hex "01 00 00 06 E0 C0 00 01 FF FF" gives done-empty ∷
+    hex "01 00 00 06 F1 C0 00 02 00 00" refused 0x08 leaving 0x08 ∷
+    hex "01 00 00 06 E0 C0 00 02 00 01" refused 0x08 leaving 0x08 ∷ [])
     (opened 0x08) ∷
-    -- a get that returns the byte of F1C2 then sets it to 0: not of length 0, not of another object, not one that is refused
-    talk three (opened 0x08) (hex "01 00 00 06 F1 C2 00 00 00 00" gives done-empty ∷ hex "01 00 00 06 F1 C2 00 01 00 00" gives done-empty ∷ []) (opened 0x08) ∷
+    -- a get that returns the byte of F1C2 then sets it to 0: not of length 0, not at offset 1, not of another object, not one that is refused
+    talk three (opened 0x08)
+    (hex "01 00 00 06 F1 C2 00 00 00 00" gives done-empty ∷
+    hex "01 00 00 06 F1 C2 00 01 00 00" gives done-empty ∷
+    hex "01 00 00 06 F1 C2 00 01 00 01" gives done-empty ∷
+    hex "01 00 00 06 F1 C2 00 01 FF FF" gives done-empty ∷ [])
+    (opened 0x08) ∷
     talk three (opened 0x08)
     (hex "01 00 00 06 E0 C0 00 00 00 01" gives hex "00 00 00 01 01" ∷
     hex "01 00 00 06 F1 C0 00 00 00 01" gives hex "00 00 00 01 01" ∷
-    hex "01 00 00 06 F1 C2 00 00 00 02" refused 0x08 leaving 0x08 ∷
-    hex "01 00 00 06 F1 C2 00 01 00 01" refused 0x08 leaving 0x08 ∷
+    hex "01 00 00 06 F1 C2 00 02 00 00" refused 0x08 leaving 0x08 ∷
+    hex "01 00 00 06 F1 C2 00 02 00 01" refused 0x08 leaving 0x08 ∷
     in-room 4 (hex "01 00 00 06 F1 C2 00 00 00 01" refused 0x0D leaving 0x0D) ∷
     hex "01 00 00 06 F1 C2 00 00 00 01" gives hex "00 00 00 01 0D" ∷
     hex "01 00 00 06 F1 C2 00 00 00 01" gives hex "00 00 00 01 00" ∷ [])
     (opened 0x00) ∷
+    talk three (opened 0x0A) (in-room 5 (hex "01 00 00 06 F1 C2 00 00 FF FF" gives hex "00 00 00 01 0A") ∷ []) (opened 0x00) ∷
     -- with the flush bit it reads 0
     talk three (opened 0x08) (hex "81 00 00 06 F1 C2 00 00 00 01" gives hex "00 00 00 01 00" ∷ []) (opened 0x00) ∷
     -- writing F1C2 is 07
@@ -429,11 +452,29 @@ data-cases =
     talk three (opened 0x00)
     (hex "01 00 00 06 F1 D2 00 00 00 04" gives hex "00 00 00 04 01 02 03 04" ∷ hex "01 00 00 06 F1 D1 00 00 00 00" refused 0x07 leaving 0x07 ∷ [])
     (opened 0x07) ∷
-    -- length 0 answers no data if offset is at most used
+    -- it answers the bytes from offset to the smaller of used and offset + length
+    talk three (opened 0x00)
+    (hex "01 00 00 06 F1 D0 00 00 00 02" gives hex "00 00 00 02 0A 0B" ∷
+    hex "01 00 00 06 F1 D0 00 00 00 03" gives hex "00 00 00 03 0A 0B 0C" ∷
+    hex "01 00 00 06 F1 D0 00 00 00 04" gives hex "00 00 00 03 0A 0B 0C" ∷
+    hex "01 00 00 06 F1 D0 00 01 00 01" gives hex "00 00 00 01 0B" ∷
+    hex "01 00 00 06 F1 D0 00 01 00 02" gives hex "00 00 00 02 0B 0C" ∷
+    hex "01 00 00 06 F1 D0 00 01 FF FF" gives hex "00 00 00 02 0B 0C" ∷
+    hex "01 00 00 06 F1 D0 00 02 01 00" gives hex "00 00 00 01 0C" ∷
+    hex "01 00 00 06 F1 D2 00 01 FF FF" gives hex "00 00 00 03 02 03 04" ∷ [])
+    (opened 0x00) ∷
+    -- length 0, and an offset equal to used, answer no data; only an offset above used is 08
     talk three (opened 0x00)
     (hex "01 00 00 06 F1 D0 00 00 00 00" gives done-empty ∷
     hex "01 00 00 06 F1 D0 00 03 00 00" gives done-empty ∷
-    hex "01 00 00 06 F1 D0 00 04 00 00" refused 0x08 leaving 0x08 ∷ [])
+    hex "01 00 00 06 F1 D0 00 03 00 01" gives done-empty ∷
+    hex "01 00 00 06 F1 D0 00 03 FF FF" gives done-empty ∷
+    hex "01 00 00 06 F1 D0 00 04 00 00" refused 0x08 leaving 0x08 ∷
+    hex "01 00 00 06 F1 D0 00 04 00 01" refused 0x08 leaving 0x08 ∷ [])
+    (opened 0x08) ∷
+    -- of an object with no byte in use
+    talk (smallest 1) (opened 0x00)
+    (hex "01 00 00 06 00 01 00 00 FF FF" gives done-empty ∷ hex "01 00 00 06 00 01 00 01 00 00" refused 0x08 leaving 0x08 ∷ [])
     (opened 0x08) ∷
     -- metadata of a stored object is always granted
     talk three (session true 0x07 0x07 0x00)

@@ -75,6 +75,11 @@ pub enum CounterRow {
     Write(Direction, WriteMet),
     EraseAndWrite(Direction, WriteMet),
     GetData(Direction),
+    /// Fewer bytes than the length asked, but some.
+    GetDataShortened(Direction),
+    /// A length above 0 at used.
+    GetDataAtUsed(Direction),
+    GetDataAboveUsed(Direction),
     GetMetadata(Direction),
     SetMetadata(Direction),
 }
@@ -95,6 +100,9 @@ impl CounterRow {
             all.extend(WriteMet::ALL.map(|met| CounterRow::Write(direction, met)));
             all.extend(WriteMet::ALL.map(|met| CounterRow::EraseAndWrite(direction, met)));
             all.push(CounterRow::GetData(direction));
+            all.push(CounterRow::GetDataShortened(direction));
+            all.push(CounterRow::GetDataAtUsed(direction));
+            all.push(CounterRow::GetDataAboveUsed(direction));
             all.push(CounterRow::GetMetadata(direction));
             all.push(CounterRow::SetMetadata(direction));
         }
@@ -112,15 +120,11 @@ impl Event<'_> {
             Row::Count => self.count_rows(),
             Row::Write => self.write_rows(CounterRow::Write),
             Row::EraseAndWrite => self.write_rows(CounterRow::EraseAndWrite),
-            Row::GetData => self.done_rows(CounterRow::GetData),
+            Row::GetData => self.get_data_rows(),
             Row::GetMetadata => self.done_rows(CounterRow::GetMetadata),
             Row::SetMetadata => self.done_rows(CounterRow::SetMetadata),
             Row::Open | Row::Close => Vec::new(),
         }
-    }
-
-    fn is_refused(&self, refusal: Refusal) -> bool {
-        self.verdict == Verdict::Refused(refusal)
     }
 
     fn count_rows(&self) -> Vec<CounterRow> {
@@ -235,6 +239,32 @@ impl Event<'_> {
         met.into_iter()
             .map(|met| row(counter.direction, met))
             .collect()
+    }
+
+    fn get_data_rows(&self) -> Vec<CounterRow> {
+        let mut rows = self.done_rows(CounterRow::GetData);
+        let Some((Object::Stored(record), part)) = self.object_and_part() else {
+            return rows;
+        };
+        let Some(Counter { direction, .. }) = record.counter() else {
+            return rows;
+        };
+        let answers = self.answers(part);
+        rows.extend(chosen(&[
+            (
+                answers && self.out_len > 0 && self.out_len < part.length,
+                CounterRow::GetDataShortened(direction),
+            ),
+            (
+                answers && part.offset == part.used && part.length > 0,
+                CounterRow::GetDataAtUsed(direction),
+            ),
+            (
+                self.is_refused(Refusal::OutOfBounds) && part.offset > part.used,
+                CounterRow::GetDataAboveUsed(direction),
+            ),
+        ]));
+        rows
     }
 
     fn done_rows(&self, row: impl Fn(Direction) -> CounterRow) -> Vec<CounterRow> {

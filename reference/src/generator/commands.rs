@@ -20,6 +20,52 @@ pub struct Generated {
     pub content: Option<Content>,
 }
 
+/// A command before its frame is made wrong, if at all, and its room is chosen.
+struct Made {
+    command: Vec<u8>,
+    content: Option<Content>,
+    answer: Answer,
+}
+
+impl Made {
+    fn with_data(command: Vec<u8>, answer: Answer) -> Made {
+        Made {
+            command,
+            content: None,
+            answer,
+        }
+    }
+
+    fn without_data(command: Vec<u8>) -> Made {
+        Made::with_data(command, Answer::whole(0))
+    }
+}
+
+/// What a command answers if it is done.
+#[derive(Clone, Copy)]
+struct Answer {
+    out_len: usize,
+    /// The OutLen that it asks for: above the other where the answer is short.
+    asked: usize,
+}
+
+impl Answer {
+    fn whole(out_len: usize) -> Answer {
+        Answer {
+            out_len,
+            asked: out_len,
+        }
+    }
+
+    /// The answer to a get of data; nothing where the offset is above used.
+    fn to_read(used: usize, offset: usize, length: usize) -> Answer {
+        Answer {
+            out_len: length.min(used.saturating_sub(offset)),
+            asked: length,
+        }
+    }
+}
+
 /// The most bytes that a write can bring.
 const LONGEST_WRITE: usize = LONGEST_COMMAND - HEADER - 4;
 
@@ -33,11 +79,11 @@ enum Kind {
 }
 
 const KINDS: [(usize, Kind); 11] = [
-    (24, Kind::Row(Row::GetData)),
+    (36, Kind::Row(Row::GetData)),
     (9, Kind::Row(Row::GetMetadata)),
-    (20, Kind::Row(Row::Write)),
-    (11, Kind::Row(Row::EraseAndWrite)),
-    (18, Kind::Row(Row::Count)),
+    (26, Kind::Row(Row::Write)),
+    (14, Kind::Row(Row::EraseAndWrite)),
+    (26, Kind::Row(Row::Count)),
     (22, Kind::Row(Row::SetMetadata)),
     (4, Kind::Row(Row::Open)),
     (2, Kind::Row(Row::Close)),
@@ -71,14 +117,18 @@ impl Commands {
     pub fn make(&mut self, state: &State, random: &mut Random) -> Generated {
         let view = View::new(state);
         let kind = pick_kind(&view, random);
-        let (mut command, content, out_len) = self.make_kind(kind, &view, random);
+        let Made {
+            mut command,
+            content,
+            answer,
+        } = self.make_kind(kind, &view, random);
         if random.chance(8) {
             wrong_frame(&mut command, random);
         }
         if let Some(cmd) = command.first_mut().filter(|_| random.chance(18)) {
             *cmd |= FLUSH;
         }
-        let size = room_size(out_len, random);
+        let size = room_size(answer, random);
         let room = match random.chance(50) {
             true => vec![0xA5; size],
             false => random.bytes(size),
@@ -90,56 +140,39 @@ impl Commands {
         }
     }
 
-    /// The command's bytes, the kind of content, and the OutLen if it is done.
-    fn make_kind(
-        &mut self,
-        kind: Kind,
-        view: &View<'_>,
-        random: &mut Random,
-    ) -> (Vec<u8>, Option<Content>, usize) {
+    fn make_kind(&mut self, kind: Kind, view: &View<'_>, random: &mut Random) -> Made {
         match kind {
             Kind::Row(row) => self.make_row(row, view, random),
-            Kind::UnknownCmd => (unknown_cmd(random), None, 0),
-            Kind::UnknownParam => (unknown_param(view, random), None, 0),
+            Kind::UnknownCmd => Made::without_data(unknown_cmd(random)),
+            Kind::UnknownParam => Made::without_data(unknown_param(view, random)),
             Kind::Short => {
                 let whole = get_metadata(view.any_number(random));
-                (whole[..random.below(HEADER)].to_vec(), None, 0)
+                Made::without_data(whole[..random.below(HEADER)].to_vec())
             }
         }
     }
 
-    fn make_row(
-        &mut self,
-        row: Row,
-        view: &View<'_>,
-        random: &mut Random,
-    ) -> (Vec<u8>, Option<Content>, usize) {
+    fn make_row(&mut self, row: Row, view: &View<'_>, random: &mut Random) -> Made {
         match row {
-            Row::GetData => {
-                let (command, out_len) = get_data(view, random);
-                (command, None, out_len)
-            }
+            Row::GetData => get_data(view, random),
             Row::GetMetadata => {
                 let target = view.target(random);
                 let out_len = match target {
                     Target::Stored(record) => metadata::answer_length(record),
                     _ => 30,
                 };
-                (get_metadata(target.number()), None, out_len)
+                Made::with_data(get_metadata(target.number()), Answer::whole(out_len))
             }
-            Row::Write => (write(0x00, view, random), None, 0),
-            Row::EraseAndWrite => (write(0x40, view, random), None, 0),
-            Row::Count => (count(view, random), None, 0),
-            Row::SetMetadata => {
-                let (command, content) = self.set_metadata(view, random);
-                (command, content, 0)
-            }
-            Row::Open => (open(random), None, 0),
-            Row::Close => (framed(CLOSE, 0x00, &[]), None, 0),
+            Row::Write => Made::without_data(write(0x00, view, random)),
+            Row::EraseAndWrite => Made::without_data(write(0x40, view, random)),
+            Row::Count => Made::without_data(count(view, random)),
+            Row::SetMetadata => self.set_metadata(view, random),
+            Row::Open => Made::without_data(open(random)),
+            Row::Close => Made::without_data(framed(CLOSE, 0x00, &[])),
         }
     }
 
-    fn set_metadata(&mut self, view: &View<'_>, random: &mut Random) -> (Vec<u8>, Option<Content>) {
+    fn set_metadata(&mut self, view: &View<'_>, random: &mut Random) -> Made {
         let target = view.target_to_change(random);
         let mut in_data = target.number().to_be_bytes().to_vec();
         let content = match target {
@@ -153,7 +186,10 @@ impl Commands {
                 None
             }
         };
-        (framed(SET, 0x01, &in_data), content)
+        Made {
+            content,
+            ..Made::without_data(framed(SET, 0x01, &in_data))
+        }
     }
 
     /// Good content in half of the cases, each bad kind in turn otherwise.
@@ -241,10 +277,39 @@ impl<'s> View<'s> {
         self.preferred_target(granted, random)
     }
 
-    /// A target whose data can often be read.
+    /// A target whose data can often be read, at times a counter or an object of the session.
     fn target_to_read(&self, random: &mut Random) -> Target<'s> {
         let granted = |record: &Record<'_>| record.grants(Slot::Read, self.state.session);
-        self.preferred_target(granted, random)
+        let counts = |record: &Record<'_>| record.counter().is_some() && granted(record);
+        let has_data = |record: &Record<'_>| record.used() > 0 && granted(record);
+        match random.below(100) {
+            0..=27 => Target::Session(self.session_object_to_read(random)),
+            28..=42 => match self.pick_record(counts, random) {
+                Some(record) => Target::Stored(record),
+                None => self.preferred_target(granted, random),
+            },
+            43..=84 => self.preferred_target(has_data, random),
+            _ => self.preferred_target(granted, random),
+        }
+    }
+
+    /// One of the wanted records, if there is any.
+    fn pick_record(
+        &self,
+        wanted: impl Fn(&Record<'_>) -> bool,
+        random: &mut Random,
+    ) -> Option<Record<'s>> {
+        let mut records = self.records.clone();
+        records.retain(wanted);
+        (!records.is_empty()).then(|| random.pick(&records))
+    }
+
+    /// Any object of the session; while there is an error, often that.
+    fn session_object_to_read(&self, random: &mut Random) -> SessionObject {
+        match self.state.session.error {
+            1.. if random.chance(30) => SessionObject::LastError,
+            _ => random.pick(&SessionObject::ALL),
+        }
     }
 
     /// A target that often has the size of a counter, and often is one that can be counted.
@@ -330,25 +395,79 @@ fn get_metadata(number: u16) -> Vec<u8> {
     framed(GET, 0x01, &number.to_be_bytes())
 }
 
-/// A get of data and its length.
-fn get_data(view: &View<'_>, random: &mut Random) -> (Vec<u8>, usize) {
+fn get_data(view: &View<'_>, random: &mut Random) -> Made {
     let target = view.target_to_read(random);
     let (used, maximum) = match target {
         Target::Stored(record) => (record.used(), record.maximum()),
         Target::Session(_) => (1, 1),
         Target::Absent(_) => (10, 20),
     };
-    let (offset, length) = match random.chance(65) {
-        true => inner_part(used, random),
-        false => {
-            let offset = boundary(used, maximum, random);
-            (offset, boundary_length(offset, used, maximum, random))
-        }
+    let (offset, length) = match target {
+        Target::Session(_) if random.chance(75) => session_part(random),
+        _ => part_to_read(used, maximum, random),
     };
     let mut in_data = target.number().to_be_bytes().to_vec();
     in_data.extend_from_slice(&(offset as u16).to_be_bytes());
     in_data.extend_from_slice(&(length as u16).to_be_bytes());
-    (framed(GET, 0x00, &in_data), length)
+    let answer = Answer::to_read(used, offset, length);
+    Made::with_data(framed(GET, 0x00, &in_data), answer)
+}
+
+/// An offset and a length of a get of a session object.
+fn session_part(random: &mut Random) -> (usize, usize) {
+    let offset = match random.below(20) {
+        0..=9 => 0,
+        10..=14 => 1,
+        15..=18 => 2,
+        _ => random.pick(&[3, 256, 65_535]),
+    };
+    let length = match random.below(20) {
+        0..=4 => 0,
+        5..=10 => 1,
+        11..=13 => 2,
+        14..=16 => 65_535,
+        _ => random.pick(&[3, 255, 256, 257, 1_500, 65_534]),
+    };
+    (offset, length)
+}
+
+/// An offset and a length of a get: within the used bytes, past them, or at any boundary.
+fn part_to_read(used: usize, maximum: usize, random: &mut Random) -> (usize, usize) {
+    match random.below(100) {
+        0..=34 => inner_part(used, random),
+        35..=79 => part_past(used, random),
+        _ => {
+            let offset = boundary(used, maximum, random);
+            (offset, boundary_length(offset, used, maximum, random))
+        }
+    }
+}
+
+/// An offset at `used` or next to it, or below, with a length that mostly ends past `used`.
+fn part_past(used: usize, random: &mut Random) -> (usize, usize) {
+    let offset = match random.below(20) {
+        0..=3 => 0,
+        4..=7 => used.saturating_sub(1),
+        8..=12 => used,
+        13..=16 => used + 1,
+        _ => random.between(0, used),
+    };
+    let left = used.saturating_sub(offset);
+    let length = match random.below(20) {
+        0..=4 => left + 1,
+        5..=7 => left + random.between(2, 24),
+        8..=11 => 65_535,
+        // Sums of 65,535 and 65,536.
+        12 => 65_535 - offset,
+        13 => (65_536 - offset).min(65_535),
+        14 => random.between(left, 65_535),
+        15 => random.between(left, 1_600.max(left)),
+        16 => 0,
+        17 => 1,
+        18 => left,
+        _ => random.between(0, left),
+    };
+    (offset, length)
 }
 
 /// An offset and a length within `limit` bytes.
@@ -615,15 +734,19 @@ fn put_in_len(command: &mut [u8], in_len: u16) {
 }
 
 /// A room that fits exactly, is too small, or is larger.
-fn room_size(out_len: usize, random: &mut Random) -> usize {
-    let exact = (HEADER + out_len).min(ROOM);
+fn room_size(answer: Answer, random: &mut Random) -> usize {
+    let exact = (HEADER + answer.out_len).min(ROOM);
+    let asked = (HEADER + answer.asked).clamp(exact, ROOM);
     match random.below(100) {
         0..=4 => random.below(HEADER),
         5..=9 => HEADER,
-        10..=34 => exact,
-        35..=41 => HEADER.max(exact - 1),
+        10..=28 => exact,
+        29..=41 => HEADER.max(exact - 1),
         42..=44 => random.between(HEADER - 1, exact),
         45..=54 => ROOM,
+        // Where the answer is short, it fits these and what is asked does not.
+        55..=62 => random.between(exact, exact.max(asked - 1)),
+        63..=65 => asked,
         _ => exact + random.between(1, 24),
     }
 }

@@ -151,15 +151,15 @@ pub fn random_counter(direction: Direction, random: &mut Random) -> Counter {
         Direction::Up => below,
         Direction::Down => above,
     };
-    let value = match random.below(14) {
+    let value = match random.below(16) {
         0 => threshold,
-        1 => threshold.saturating_sub(1),
-        2 => threshold.saturating_add(1),
-        3 => below,
-        4 => above,
-        5 => random.pick(&[0, u32::MAX]),
-        6 => carrying_number(random),
-        7 => random.number() as u32,
+        1 | 2 => threshold.saturating_sub(1),
+        3 | 4 => threshold.saturating_add(1),
+        5 => below,
+        6 => above,
+        7 => random.pick(&[0, u32::MAX]),
+        8 => carrying_number(random),
+        9 => random.number() as u32,
         _ => short,
     };
     Counter {

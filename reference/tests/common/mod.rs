@@ -148,6 +148,10 @@ impl Element {
         usize::from(u16::from_le_bytes([record[USED], record[USED + 1]]))
     }
 
+    pub fn set_used(&mut self, object: u16, used: u16) {
+        self.record(object)[USED..USED + 2].copy_from_slice(&used.to_le_bytes());
+    }
+
     pub fn data(&mut self, object: u16) -> Vec<u8> {
         self.record(object)[DATA..].to_vec()
     }

@@ -1,5 +1,5 @@
 //! Answers in words.
-use element::{Refusal, COUNTER_SIZE, HEADER};
+use element::{Length, Refusal, COUNTER_SIZE, HEADER};
 
 use crate::command::{self, Action};
 use crate::counter::Counter;
@@ -21,6 +21,8 @@ pub struct Exchange {
     pub last_error: u8,
     /// The counter that the command names, as the command leaves it.
     pub counter: Option<Counter>,
+    /// The bytes in use of the object that the command names, as the command leaves it.
+    pub used: Option<usize>,
 }
 
 impl Exchange {
@@ -70,7 +72,7 @@ impl Exchange {
         }
     }
 
-    /// Why a count is refused, or a write to a counter; all else by the refusal's name.
+    /// Why a count is refused, a write to a counter, or a read past the bytes in use; all else by the refusal's name.
     fn refused_in_words(&self, command: &[u8], number: u8) -> String {
         let why = match (command::action(command), number, self.counter) {
             (Some(Action::Count { .. }), 0x03, _) => "this object is no counter".into(),
@@ -81,18 +83,32 @@ impl Exchange {
             (Some(Action::Write), 0x08, Some(_)) => {
                 "a write to a counter sets its 8 bytes at offset 0".into()
             }
+            (Some(Action::Read { offset, .. }), 0x08, _) => match self.used {
+                Some(used) => format!(
+                    "offset {offset} is past the {} in use",
+                    names::count(used, "byte")
+                ),
+                None => return refusal(number),
+            },
             _ => return refusal(number),
         };
         format!("{number:02X}: {why}")
     }
 
-    /// What a count or a write leaves in a counter, or a read of the whole of it gives; all else by the data.
+    /// What a count or a write leaves in a counter, or a read of the whole of it gives; all else by the data. A read that gave less than it asked for
+    /// says so.
     fn done_in_words(&self, command: &[u8]) -> String {
         let data = self.response.get(HEADER..).unwrap_or(&[]);
         match (command::action(command), self.counter, data.len()) {
-            (Some(Action::Count { .. } | Action::Write), Some(counter), _)
-            | (Some(Action::Read), Some(counter), COUNTER_SIZE) => {
+            (Some(Action::Count { .. } | Action::Write), Some(counter), _) => {
                 format!("done: {}", counter.in_words())
+            }
+            (Some(Action::Read { length, .. }), Some(counter), COUNTER_SIZE) => {
+                format!(
+                    "done: {}{}",
+                    counter.in_words(),
+                    beside(length, COUNTER_SIZE)
+                )
             }
             _ => done(command, data),
         }
@@ -113,17 +129,44 @@ fn done(command: &[u8], data: &[u8]) -> String {
         [_, _, _, _, high, low, ..] => names::session_object(u16::from_be_bytes([*high, *low])),
         _ => None,
     };
+    let length = match command::action(command) {
+        Some(Action::Read { length, .. }) => length,
+        _ => Length(data.len() as u16),
+    };
+    let note = beside(length, data.len());
     match (command, object, data) {
+        (_, _, []) if length != Length(0) => "done: no byte is in use from there on".into(),
         (_, _, []) => "done".into(),
         ([_, 0x01, ..], _, _) => format!("done: {}", metadata::in_words(data)),
-        (_, Some("last error"), [0]) => "done: no error".into(),
-        (_, Some("last error"), [number]) => format!("done: last error {}", refusal(*number)),
-        (_, Some(name), [state]) => format!("done: {name} {}", names::state_shown(*state)),
+        (_, Some("last error"), [0]) => format!("done: no error{note}"),
+        (_, Some("last error"), [number]) => format!("done: last error {}{note}", refusal(*number)),
+        (_, Some(name), [state]) => format!("done: {name} {}{note}", names::state_shown(*state)),
         _ => format!(
-            "done: {}, \"{}\"",
+            "done: {}{}, \"{}\"",
             names::count(data.len(), "byte"),
+            of_asked(length, data.len()),
             hex::text(data)
         ),
+    }
+}
+
+/// What stands behind the count of bytes that a read gave.
+fn of_asked(length: Length, given: usize) -> String {
+    match length {
+        Length::ALL => ", all from there on".into(),
+        Length(asked) if usize::from(asked) > given => format!(" of the {asked} asked for"),
+        _ => String::new(),
+    }
+}
+
+/// What stands behind words for all that an object holds.
+fn beside(length: Length, given: usize) -> String {
+    let bytes = names::count(given, "byte");
+    match length {
+        Length(asked) if length != Length::ALL && usize::from(asked) > given => {
+            format!(" ({bytes} of the {asked} asked for)")
+        }
+        _ => String::new(),
     }
 }
 
@@ -161,6 +204,7 @@ mod tests {
             refused: Some(0x01),
             last_error: 0x08,
             counter: None,
+            used: None,
         };
         let words = exchange.in_words(&[]);
         assert!(words.starts_with("refused 01"), "{words}");
@@ -181,6 +225,7 @@ mod tests {
             refused,
             last_error: refused.unwrap_or(0),
             counter: Some(Counter { direction, state }),
+            used: Some(COUNTER_SIZE),
         };
         exchange.in_words(command)
     }
@@ -216,6 +261,108 @@ mod tests {
         );
         let lcso = [0x02, 0x01, 0, 7, 0xF1, 0xD0, 0x20, 3, 0xC0, 1, 7];
         assert_eq!(of_counter(&lcso, &DONE, None, 12), "done");
+    }
+
+    /// A read at offset 5 of a length.
+    fn read_at_5(object: u16, length: u16) -> Vec<u8> {
+        let [object, length] = [object, length].map(u16::to_be_bytes);
+        [[0x01, 0x00], [0, 6], object, [0, 5], length].concat()
+    }
+
+    #[test]
+    fn a_read_that_gave_less_than_it_asked_for_says_so() {
+        let read = |length| read_at_5(0xF1D0, length);
+        assert_eq!(done(&read(2), b"AB"), "done: 2 bytes, \"AB\"");
+        assert_eq!(
+            done(&read(3), b"AB"),
+            "done: 2 bytes of the 3 asked for, \"AB\""
+        );
+        assert_eq!(
+            done(&read(1500), b"A"),
+            "done: 1 byte of the 1500 asked for, \"A\""
+        );
+        assert_eq!(
+            done(&read(0xFFFF), b"AB"),
+            "done: 2 bytes, all from there on, \"AB\""
+        );
+        assert_eq!(done(&read(0), &[]), "done");
+        for length in [1, 0xFFFF] {
+            assert_eq!(
+                done(&read(length), &[]),
+                "done: no byte is in use from there on"
+            );
+        }
+    }
+
+    #[test]
+    fn of_a_byte_of_the_session_too() {
+        assert_eq!(
+            done(&read_at_5(0xE0C0, 9), &[7]),
+            "done: LcsG 07 operational (1 byte of the 9 asked for)"
+        );
+        assert_eq!(
+            done(&read_at_5(0xF1C0, 0xFFFF), &[7]),
+            "done: LcsA 07 operational"
+        );
+        assert_eq!(
+            done(&read_at_5(0xF1C2, 2), &[0]),
+            "done: no error (1 byte of the 2 asked for)"
+        );
+        assert_eq!(
+            done(&read_at_5(0xF1C2, 2), &[7]),
+            "done: last error 07: the access condition does not hold (1 byte of the 2 asked for)"
+        );
+        assert_eq!(
+            done(&read_at_5(0xF1C2, 2), &[]),
+            "done: no byte is in use from there on"
+        );
+    }
+
+    #[test]
+    fn of_a_counter_too() {
+        let whole = [0, 0, 0, 8, 0, 0, 0, 12, 0, 0, 1, 44];
+        let read = |low| [0x01, 0x00, 0, 6, 0xF1, 0xD0, 0, 0, 0, low];
+        assert_eq!(
+            of_counter(&read(8), &whole, None, 12),
+            "done: 12 of 300, 288 to go"
+        );
+        assert_eq!(
+            of_counter(&read(9), &whole, None, 12),
+            "done: 12 of 300, 288 to go (8 bytes of the 9 asked for)"
+        );
+        assert_eq!(
+            of_counter(
+                &[0x01, 0, 0, 6, 0xF1, 0xD0, 0, 0, 0xFF, 0xFF],
+                &whole,
+                None,
+                12
+            ),
+            "done: 12 of 300, 288 to go"
+        );
+    }
+
+    #[test]
+    fn a_read_past_the_bytes_in_use_says_how_many_there_are() {
+        let said = |used| {
+            let exchange = Exchange {
+                outcome: 0,
+                response: REFUSED.to_vec(),
+                refused: Some(0x08),
+                last_error: 0x08,
+                counter: None,
+                used,
+            };
+            exchange.in_words(&read_at_5(0xF1D0, 1))
+        };
+        assert_eq!(
+            said(Some(4)),
+            "refused 08: offset 5 is past the 4 bytes in use"
+        );
+        assert_eq!(
+            said(Some(1)),
+            "refused 08: offset 5 is past the 1 byte in use"
+        );
+        assert!(said(None).starts_with("refused 08: an offset past the bytes in use"));
     }
 
     #[test]

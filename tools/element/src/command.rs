@@ -1,4 +1,6 @@
 //! Commands in words. Nothing is judged here: the words say what stands in the bytes, the library says what it leads to.
+use element::Length;
+
 use crate::hex;
 use crate::metadata;
 use crate::names;
@@ -34,7 +36,12 @@ pub fn in_words(command: &[u8]) -> String {
 #[derive(Clone, Copy, Debug, PartialEq, Eq)]
 pub enum Action {
     /// Reads it.
-    Read,
+    Read {
+        /// The place that it names.
+        offset: u16,
+        /// How many bytes it asks for.
+        length: Length,
+    },
     /// Writes it, erasing or not.
     Write,
     /// Counts.
@@ -47,7 +54,10 @@ pub enum Action {
 /// What a command of a whole header does with an object's data, if anything.
 pub fn action(command: &[u8]) -> Option<Action> {
     match command {
-        [0x01 | 0x81, 0x00, _, _, ..] => Some(Action::Read),
+        [0x01 | 0x81, 0x00, _, _, _, _, a1, a2, l1, l2] => Some(Action::Read {
+            offset: pair(a1, a2),
+            length: Length(pair(l1, l2)),
+        }),
         [0x02 | 0x82, 0x00 | 0x40, _, _, ..] => Some(Action::Write),
         [0x02 | 0x82, 0x02, _, _, _, _, high, low, ..] => Some(Action::Count {
             offset: pair(high, low),
@@ -90,11 +100,14 @@ fn read(data: &[u8]) -> String {
     let [o1, o2, a1, a2, l1, l2] = data else {
         return short("read", data, "6: object, offset, length");
     };
+    let length = match Length(pair(l1, l2)) {
+        Length::ALL => "all bytes".into(),
+        Length(length) => names::count(length.into(), "byte"),
+    };
     format!(
-        "read {} at {}: {}",
+        "read {} at {}: {length}",
         names::object(pair(o1, o2)),
-        pair(a1, a2),
-        names::count(pair(l1, l2).into(), "byte")
+        pair(a1, a2)
     )
 }
 
@@ -184,6 +197,14 @@ mod tests {
             said("01 00 00 06 F1 D0 00 00 00 11"),
             "read F1D0 at 0: 17 bytes"
         );
+        assert_eq!(
+            said("01 00 00 06 F1 D0 00 05 FF FF"),
+            "read F1D0 at 5: all bytes"
+        );
+        assert_eq!(
+            said("01 00 00 06 F1 D0 00 05 FF FE"),
+            "read F1D0 at 5: 65534 bytes"
+        );
         assert_eq!(said("01 01 00 02 F1 D0"), "read metadata of F1D0");
         assert_eq!(
             said("02 00 00 0C F1 D0 00 09 01 02 03 04 05 06 07 08"),
@@ -208,15 +229,20 @@ mod tests {
     #[test]
     fn what_a_command_does_with_data() {
         let of = |text| action(&hex::bytes(text, 1).unwrap());
-        assert_eq!(of("81 00 00 06 F1 D0"), Some(Action::Read));
+        let offset = 0x0102;
+        let length = Length(0x0304);
+        assert_eq!(
+            of("81 00 00 06 F1 D0 01 02 03 04"),
+            Some(Action::Read { offset, length })
+        );
         assert_eq!(of("02 00 00 05 F1 D0"), Some(Action::Write));
         assert_eq!(of("82 40 00 05 F1 D0"), Some(Action::Write));
-        let offset = 0x0102;
         assert_eq!(
             of("02 02 00 05 F1 D0 01 02 05"),
             Some(Action::Count { offset })
         );
         for text in [
+            "01 00 00 05 F1 D0 01 02 03",
             "01 01 00 02 F1 D0",
             "02 01 00 02 F1 D0",
             "01 02 00 00",

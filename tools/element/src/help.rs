@@ -100,7 +100,8 @@ Exit status: 0 done; 1 the store is malformed (what `element check` says is show
 pub const RUN: &str = "\
 Carries out a list of commands, each on what the one before left, and shows each command in words, its
 response, and a refusal by its own number (the last error may hold a higher one). Of a counter that is read
-whole, written or counted it shows how far it is then, as `element show` does.
+whole, written or counted it shows how far it is then, as `element show` does. A read gives the bytes in use
+from its offset on and may give fewer than it asked for: then both counts are shown. Length FFFF asks for all.
 
 usage: element run FILE LIST [--dry] [--accept-refusals] [--plain] [--room BYTES]
 

@@ -78,12 +78,22 @@ pub fn send(kept: &mut Kept, command: &[u8], room: usize) -> Exchange {
         refused,
         last_error: kept.session.error,
         counter: counter_named(&kept.store, command),
+        used: used_named(&kept.store, command),
     }
 }
 
 fn counter_named(store: &[u8], command: &[u8]) -> Option<Counter> {
     let record = record::find(store, command::object(command)?)?;
     Counter::of(&record)
+}
+
+/// An object of the session is one byte.
+fn used_named(store: &[u8], command: &[u8]) -> Option<usize> {
+    let object = command::object(command)?;
+    match names::session_object(object) {
+        Some(_) => Some(1),
+        None => Some(record::find(store, object)?.used()),
+    }
 }
 
 /// The last error may hold a higher number: the refused command is sent again on a session with a last error of 0. No judgment looks at the last error,
@@ -204,6 +214,23 @@ mod tests {
     }
 
     #[test]
+    fn the_bytes_in_use_are_learned() {
+        let mut kept = factory();
+        said(&mut kept, OPEN);
+        let mut left = |text| {
+            let exchange = said(&mut kept, text);
+            (exchange.refused, exchange.used)
+        };
+        assert_eq!(left("01 00 00 06 F1 D0 00 00 00 01"), (None, Some(0)));
+        assert_eq!(left("02 00 00 05 F1 D0 00 02 AA"), (None, Some(3)));
+        assert_eq!(left("01 00 00 06 F1 D0 00 03 FF FF"), (None, Some(3)));
+        assert_eq!(left("01 00 00 06 F1 D0 00 04 00 00"), (Some(8), Some(3)));
+        assert_eq!(left("01 00 00 06 F1 C2 00 02 00 01"), (Some(8), Some(1)));
+        assert_eq!(left("01 00 00 06 F2 00 00 00 00 01"), (Some(1), None));
+        assert_eq!(left("71 00 00 00"), (None, None));
+    }
+
+    #[test]
     fn the_room_counts() {
         let mut kept = factory();
         said(&mut kept, OPEN);
@@ -212,5 +239,9 @@ mod tests {
         assert_eq!(send(&mut kept, &metadata, 28).refused, None);
         let none = send(&mut kept, &metadata, 3);
         assert_eq!((none.outcome, none.plain().as_str()), (1, "1 \n"));
+        said(&mut kept, "02 00 00 07 F1 D0 00 00 0A 0B 0C");
+        let all = hex::bytes("01 00 00 06 F1 D0 00 00 FF FF", 1).unwrap();
+        assert_eq!(send(&mut kept, &all, 7).plain(), "0 000000030A0B0C\n");
+        assert_eq!(send(&mut kept, &all, 6).refused, Some(0x0D));
     }
 }

@@ -196,6 +196,55 @@ fn random_commands_are_told() {
     }
 }
 
+/// What a read gives: the bytes in use from its offset on, at most its length, where the room has 4 bytes more than these.
+#[test]
+fn random_reads_give_what_is_in_use() {
+    let mut numbers = Numbers::new(8);
+    let mut seen = [0; 4];
+    for _ in 0..20 {
+        let store = description::to_store(&common::description(&mut numbers)).unwrap();
+        for _ in 0..1000 {
+            seen[check_read(&mut numbers, &store)] += 1;
+        }
+    }
+    assert!(seen.iter().all(|count| *count > 1000), "{seen:?}");
+}
+
+/// A read near the end of what is in use. Gives 0 where access is denied, 1 past the bytes in use, 2 without room for the answer, 3 where it is done.
+fn check_read(numbers: &mut Numbers, store: &[u8]) -> usize {
+    let record = numbers.one(&record::records(store));
+    let used = record.used();
+    let offset = match numbers.below(3) {
+        0 => used + numbers.below(3),
+        _ => numbers.below(used + 1),
+    };
+    let length = match numbers.below(3) {
+        0 => 0xFFFF,
+        _ => numbers.below(used + 3),
+    };
+    let parts = [record.object(), offset as u16, length as u16].map(u16::to_be_bytes);
+    let command = [&[[0x01, 0x00], [0, 6]][..], &parts].concat().concat();
+    let space = numbers.one(&[4, 7, 20, 1504]);
+    let mut kept = Kept {
+        store: store.to_vec(),
+        session: Session {
+            opened: 1,
+            ..Session::fresh()
+        },
+    };
+    let exchange = run::send(&mut kept, &command, space);
+    assert_eq!(kept.store, store);
+    let given = record.data().get(offset..used.min(offset + length));
+    let told = exchange.response.get(4..).unwrap_or(&[]);
+    match (exchange.refused, given) {
+        (Some(0x07), _) => 0,
+        (Some(0x08), None) => 1,
+        (Some(0x0D), Some(data)) if 4 + data.len() > space => 2,
+        (None, Some(data)) if data == told && 4 + data.len() <= space => 3,
+        _ => panic!("{command:02X?} in a room of {space}: {exchange:?}"),
+    }
+}
+
 /// On any store, session and room: a refusal has a number, and it changes no byte of the store.
 #[test]
 fn random_commands_are_run() {

@@ -1,6 +1,6 @@
 -- `command::early` meets its contract.
 use Rattle.rules.specs.Refusals.{early}
-use Rattle.command.proofs.Tests.{steps}
+use Rattle.laws.proofs.Calls.{steps}
 use Rattle.command.proofs.Steps.{sized}
 use borrow.Author.Needs.{needs}
 use Rattle.command.proofs.early.Statement.{statement}

@@ -1,6 +1,6 @@
 -- `command::flushed` meets its contract.
 use Rattle.rules.specs.Step.{flushed}
-use Rattle.command.proofs.Tests.{choices}
+use Rattle.laws.proofs.Calls.{choices}
 use borrow.Author.Needs.{needs}
 use Rattle.command.proofs.flushed.Statement.{statement}
 use Rattle.command.proofs.flushed.Tie as tie

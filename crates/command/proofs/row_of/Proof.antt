@@ -1,7 +1,7 @@
 -- `command::row_of` meets its contract.
 use Rattle.rules.specs.Command.{command-table, table-line}
 use Rattle.command.specs.Table.{row-in}
-use Rattle.command.proofs.Tests.{choices}
+use Rattle.laws.proofs.Calls.{choices}
 use borrow.Author.Needs.{needs}
 use Rattle.command.proofs.row_of.Statement.{statement}
 use Rattle.command.proofs.row_of.Tie as tie

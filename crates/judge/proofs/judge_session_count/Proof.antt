@@ -1,5 +1,5 @@
 -- `judge::judge_session_count` meets its contract.
-use Rattle.command.proofs.Tests.{steps}
+use Rattle.laws.proofs.Calls.{steps}
 use borrow.Author.Needs.{needs}
 use Rattle.judge.proofs.judge_session_count.Statement.{statement}
 use Rattle.judge.proofs.judge_session_count.Tie as tie

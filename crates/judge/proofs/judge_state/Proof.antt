@@ -1,5 +1,5 @@
 -- `judge::judge_state` meets its contract.
-use Rattle.command.proofs.Tests.{steps-not}
+use Rattle.laws.proofs.Calls.{steps-not}
 use Rattle.judge.proofs.Judging.{sent-within, becomes}
 use borrow.Author.Needs.{needs}
 use Rattle.judge.proofs.judge_state.Statement.{statement}

@@ -2,7 +2,7 @@
 use Rattle.judge.proofs.Judging.{stored-judged, own-by, stored-get, fitting-told, stored-write}
 use Rattle.rules.specs.Chain.{_and-then_}
 use Rattle.rules.specs.Operation.{operation}
-use Rattle.command.proofs.Tests.{steps-not}
+use Rattle.laws.proofs.Calls.{steps-not}
 use Rattle.command.proofs.InForm.{parts-there}
 use borrow.Author.Needs.{needs}
 use Rattle.judge.proofs.judge_stored.Statement.{statement}

@@ -1,5 +1,5 @@
 -- `judge::judge_write` meets its contract.
-use Rattle.command.proofs.Tests.{steps-not}
+use Rattle.laws.proofs.Calls.{steps-not}
 use borrow.Author.Needs.{needs}
 use Rattle.judge.proofs.judge_write.Statement.{statement}
 use Rattle.judge.proofs.judge_write.Tie as tie

@@ -1,9 +1,9 @@
--- `command::fitting` meets its contract.
+-- `bounds::fitting` meets its contract.
 use Rattle.rules.specs.Refusals.{fitting}
-use Rattle.command.proofs.Tests.{steps}
+use Rattle.laws.proofs.Calls.{steps}
 use borrow.Author.Needs.{needs}
-use Rattle.command.proofs.fitting.Statement.{statement}
-use Rattle.command.proofs.fitting.Tie as tie
+use Rattle.bounds.proofs.fitting.Statement.{statement}
+use Rattle.bounds.proofs.fitting.Tie as tie
 
 pub fitting-spec : {M : Type 1} → statement M
 unfolding fitting
