@@ -1,13 +1,13 @@
 -- What each action does: at an object of the session and at a found record.
-use Prim.Native.Nat.{ℕ, zero, suc, _+_, _-_, _<_, _≤_, min}
-use mathlib.Core.Path.{_≡_, sym, ap, _∙_}
-use mathlib.Core.Bool.{true, _&&_}
+use Prim.Native.Nat.{ℕ, _+_, _-_, _<_, _≤_, min}
+use mathlib.Core.Path.{_≡_, refl, ap, _∙_}
+use mathlib.Core.Bool.{Bool, true, false, _&&_}
 use mathlib.Core.List.{List, [], _∷_}
 use mathlib.Core.Option.{none, some}
 use native.Mathlib.Omega.{arith}
 use lib.Dec.{eqb, leb}
 use lib.ListN.{length, getD, take, drop}
-use lib.Seq.{getD-drop, drop-nil}
+use lib.Seq.{getD-drop}
 use Rattle.rules.specs.declared.Session.{Session}
 use Rattle.rules.specs.declared.Action.{Action}
 use Rattle.rules.specs.declared.Action.the-variants.{GetData, GetMetadata, Write, SetMetadata, Count}
@@ -20,7 +20,7 @@ use Rattle.rules.specs.Session.{with-error, with-state}
 use Rattle.rules.specs.Operation.{shown, put-at, operation}
 use Rattle.rules.specs.Access.{Seen}
 use Rattle.record.specs.Places.{object-at, Stored, with-record}
-use Rattle.laws.proofs.Puts.{shown-length, shown-part}
+use Rattle.laws.proofs.Puts.{shown-length, shown-part, shown-byte}
 use Rattle.record.proofs.Standing.{stored-kind}
 use Rattle.change.specs.Change.{counted-at}
 use Rattle.act.specs.Acting.{session-does, record-does, InSessionMay, OnRecordMay, stored-at}
@@ -28,20 +28,16 @@ use Rattle.act.specs.Acting.{session-does, record-does, InSessionMay, On
 -- `show_byte` and `show_data` ---------------------------------------------------------------------------------------------------
 
 -- of an object of the session: so many bytes are shown, of one
-byte-there : (c : List ℕ) (byte k n m : ℕ) → k ≡ offset c → n ≡ asked-length c → m ≡ min 1 (k + n) - k → take m (byte ∷ []) ≡ shown c (byte ∷ [])
-unfolding shown
-byte-there c byte zero n m ek en em = let whole : m ≡ min 1 (0 + n) = omega (arith, em) in rw (← ek, ← en, whole)
-byte-there c byte (suc k) n m ek en em =
-    let none : m ≡ 0 = omega (arith, em) in
-    let end : min 1 (suc k + n) ≡ 1 = omega arith in
-    rw (← ek, ← en, none, end) (sym (drop-nil k))
+one-or-none : (t : Bool) (byte : ℕ) → take (length (if t then byte ∷ [] else [])) (byte ∷ []) ≡ (if t then byte ∷ [] else [])
+one-or-none true byte = refl
+one-or-none false byte = refl
 
 module _ (c : List ℕ) (byte k n m : ℕ) (ek : k ≡ offset c) (en : n ≡ asked-length c) (em : m ≡ min 1 (k + n) - k) where
-  part : take m (byte ∷ []) ≡ shown c (byte ∷ [])
-  part = byte-there c byte k n m ek en em
-
   many : length (shown c (byte ∷ [])) ≡ m
   many = omega (arith, ek, en, em, shown-length c (byte ∷ []))
+
+  part : take m (byte ∷ []) ≡ shown c (byte ∷ [])
+  part = rw (← many, shown-byte c byte) (one-or-none (eqb (offset c) 0 && leb 1 (asked-length c)) byte)
 
   pub byte-count : m ≡ length (take m (byte ∷ []))
   byte-count = omega (arith, many, ap length part)

@@ -1,15 +1,14 @@
 -- A data read that is done, with nothing assumed of store and session: what it showed, and that it might be shown. And when the byte of an object
 -- of the session is shown.
-use Prim.Native.Nat.{ℕ, zero, suc, _+_, min}
-use mathlib.Core.Bool.{Bool, true, false, _&&_, and-true}
+use Prim.Native.Nat.{ℕ}
+use mathlib.Core.Bool.{Bool, true, false, and-true}
 use mathlib.Core.List.{List, [], _∷_}
 use mathlib.Core.Option.{none, some}
 use mathlib.Core.Path.{_≡_, refl, sym, ap, _∙_}
 use native.Mathlib.Omega.{arith}
-use borrow.Author.Tests.{eqb-true, ne-eqb, le-leb, not-false}
+use borrow.Author.Tests.{eqb-true, not-false}
 use lib.Dec.{eqb, leb}
 use lib.ListN.{length}
-use lib.Seq.{slice, drop-nil}
 use Rattle.rules.specs.declared.Session.{Session}
 use Rattle.rules.specs.declared.Kind.{Kind}
 use Rattle.rules.specs.declared.Kind.the-variants.{LifeCycle, Status}
@@ -17,7 +16,7 @@ use Rattle.rules.specs.declared.Action.{Action}
 use Rattle.rules.specs.declared.Action.the-variants.{GetData}
 use Rattle.rules.specs.declared.Row.the-variants.{OnObject}
 use Rattle.rules.specs.Basic.{if_then_else_, among, is-some, or-else}
-use Rattle.rules.specs.Command.{row, object-number, offset, asked-length}
+use Rattle.rules.specs.Command.{row, object-number}
 use Rattle.rules.specs.Object.{Object, in-session}
 use Rattle.rules.specs.Layout.{unpack, find}
 use Rattle.rules.specs.Session.{session-object, session-objects}
@@ -27,6 +26,7 @@ use Rattle.rules.specs.Refusals.{unsound, unusable}
 use Rattle.rules.specs.Step.{flushed, step}
 use Rattle.demands.specs.Demand.{is-done, Ready, session-byte, asks-byte, byte-shown, MayReadByte, after-byte, bytes-shown, Shown, of-object, of-session}
 use Rattle.laws.proofs.Tests.{or-left, or-right, some-else}
+use Rattle.laws.proofs.Puts.{shown-byte}
 use Rattle.laws.proofs.Verdicts.{early-passed, verdict-passed}
 use Rattle.laws.proofs.Rows.{on-object}
 use Rattle.laws.proofs.Named.{named-in-store, flush-keeps}
@@ -71,13 +71,8 @@ which-named n see = go (eqb n 0xE0C0) refl (eqb n 0xF1C0) refl (eqb n 0xF1C2) re
 
 module _ (c : List ℕ) (byte : ℕ) where
   one-shown : shown c (byte ∷ []) ≡ byte-shown c byte
-  unfolding shown byte-shown asks-byte
-  one-shown = by (offset c) (asked-length c)
-    where
-      by : (k n : ℕ) → slice k (min 1 (k + n)) (byte ∷ []) ≡ (if eqb k 0 && leb 1 n then byte ∷ [] else [])
-      by zero zero = refl
-      by zero (suc n) = let whole : min 1 (0 + suc n) ≡ 1 = omega arith in rw (whole, le-leb 1 (suc n) (omega arith))
-      by (suc k) n = let whole : min 1 (suc k + n) ≡ 1 = omega arith in rw (whole, ne-eqb (suc k) 0 (λ e. omega arith)) (drop-nil k)
+  unfolding byte-shown asks-byte
+  one-shown = shown-byte c byte
 
   one-asked : leb 1 (length (shown c (byte ∷ []))) ≡ asks-byte c
   unfolding byte-shown

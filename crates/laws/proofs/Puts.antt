@@ -1,13 +1,16 @@
 -- Bytes put at an offset, byte by byte: the bytes sent stand at the offset, all others stay, a gap reads as zero, and used becomes the
 -- larger of used and offset + length. How many bytes a read shows, and which.
 use Prim.Native.Nat.{ℕ, zero, suc, _+_, _-_, _<_, max, min}
+use mathlib.Core.Bool.{_&&_}
 use mathlib.Core.List.{List, [], _∷_, _++_, append-assoc}
 use mathlib.Core.Path.{_≡_, refl, sym, ap, _∙_}
 use native.Mathlib.Nat.{sub-zero, zero-sub, suc-sub-suc}
 use native.Mathlib.Omega.{arith}
+use borrow.Author.Tests.{ne-eqb, le-leb}
+use lib.Dec.{eqb, leb}
 use lib.ListN.{length, getD, take, drop, length-append, length-take, length-drop, length-replicate, List·getD-append}
-use lib.Seq.{getD-append-add, getD-take, getD-drop, take-nil, slice, length-slice}
-use Rattle.rules.specs.Basic.{zeros}
+use lib.Seq.{getD-append-add, getD-take, getD-drop, take-nil, drop-nil, slice, length-slice}
+use Rattle.rules.specs.Basic.{if_then_else_, zeros}
 use Rattle.rules.specs.Command.{offset, asked-length}
 use Rattle.rules.specs.Operation.{shown, put-at}
 
@@ -79,3 +82,13 @@ module _ (c content : List ℕ) where
   pub shown-part : take (min (length content) (offset c + asked-length c) - offset c) (drop (offset c) content) ≡ shown c content
   unfolding shown
   shown-part = slice-part (offset c) _ content
+
+-- of one byte: that byte, at offset 0 with a length of 1 or more; else nothing
+pub shown-byte : (c : List ℕ) (byte : ℕ) → shown c (byte ∷ []) ≡ (if eqb (offset c) 0 && leb 1 (asked-length c) then byte ∷ [] else [])
+unfolding shown
+shown-byte c byte = by (offset c) (asked-length c)
+  where
+    by : (k n : ℕ) → slice k (min 1 (k + n)) (byte ∷ []) ≡ (if eqb k 0 && leb 1 n then byte ∷ [] else [])
+    by zero zero = refl
+    by zero (suc n) = let whole : min 1 (0 + suc n) ≡ 1 = omega arith in rw (whole, le-leb 1 (suc n) (omega arith))
+    by (suc k) n = let whole : min 1 (suc k + n) ≡ 1 = omega arith in rw (whole, ne-eqb (suc k) 0 (λ e. omega arith)) (drop-nil k)
