@@ -334,8 +334,18 @@ fn main() {
         },
         Measured {
             title: "full, with expressions of 27 bytes",
-            name: "full, long expressions",
+            name: "27 bytes",
             begin: stores::full(stores::LONG_ONES, random),
+        },
+        Measured {
+            title: "full, a condition on a counter in half of the records",
+            name: "counters",
+            begin: stores::half(stores::COUNTED_ONES, random),
+        },
+        Measured {
+            title: "full, groups with conditions on counters in half of the records",
+            name: "counters in groups",
+            begin: stores::half(stores::GROUPED_ONES, random),
         },
     ];
     let mixed = mixed(&stores);

@@ -49,6 +49,16 @@ const LONGEST: &[u8] = &[
 pub const SHORT_ONES: [&[u8]; 3] = [BEFORE_OPERATIONAL, ALWAYS, ALWAYS];
 pub const LONG_ONES: [&[u8]; 3] = [LONGEST; 3];
 
+/// On a counter of a full store that is far from its threshold.
+const COUNTED: &[u8] = &[0x40, 0xF2, 0x06];
+pub const COUNTED_ONES: [&[u8]; 3] = [COUNTED, COUNTED, ALWAYS];
+
+/// On two of them: the first is at its threshold, so the second group decides, and the other counter goes up.
+const GROUPED: &[u8] = &[
+    0x40, 0xF2, 0x24, 0xFE, 0x40, 0xF2, 0x06, 0xFD, 0xE1, 0xFC, 0x07,
+];
+pub const GROUPED_ONES: [&[u8]; 3] = [GROUPED, GROUPED, ALWAYS];
+
 /// The record of an object, with random bytes in use.
 pub fn record(object: Object, expressions: [&[u8]; 3], random: &mut Random) -> Vec<u8> {
     let data = random.bytes(object.used);
@@ -176,25 +186,39 @@ fn full_objects(random: &mut Random) -> Vec<Object> {
     (0..32).map(object).collect()
 }
 
-/// 32 records that fill 16,384 bytes.
-pub fn full(expressions: [&[u8]; 3], random: &mut Random) -> Beginning {
+/// 32 records that fill 16,384 bytes, all with these expressions.
+pub fn full(expressions: [&'static [u8]; 3], random: &mut Random) -> Beginning {
+    full_by(|_| expressions, random)
+}
+
+/// The same, with other expressions in half of the records, of those read and of those written.
+pub fn half(expressions: [&'static [u8]; 3], random: &mut Random) -> Beginning {
+    full_by(|place| [expressions, SHORT_ONES][place / 2 % 2], random)
+}
+
+/// The same, with the expressions of each place; a metadata write brings the first change expression.
+fn full_by(expressions: impl Fn(usize) -> [&'static [u8]; 3], random: &mut Random) -> Beginning {
     let objects = full_objects(random);
     let mut store = Vec::new();
     let (mut read, mut written) = (Vec::new(), Vec::new());
     let (mut counted, mut reached) = (Vec::new(), Vec::new());
     for (place, &object) in objects.iter().enumerate() {
         if place == LOCKED {
-            store.extend(record(object, [NEVER, NEVER, expressions[2]], random));
+            store.extend(record(
+                object,
+                [NEVER, NEVER, expressions(place)[2]],
+                random,
+            ));
         } else if let Some(counter) = counter_at(place) {
             let counters = match counter.is_reached() {
                 true => &mut reached,
                 false => &mut counted,
             };
             counters.push((object.number, counter));
-            store.extend(counter_record(object, counter, expressions));
+            store.extend(counter_record(object, counter, expressions(place)));
         } else {
             [&mut read, &mut written][place % 2].push(object);
-            store.extend(record(object, expressions, random));
+            store.extend(record(object, expressions(place), random));
         }
     }
     assert_eq!(store.len(), LARGEST_STORE);
@@ -206,7 +230,7 @@ pub fn full(expressions: [&[u8]; 3], random: &mut Random) -> Beginning {
         counted,
         reached,
         locked: objects[LOCKED],
-        sent: expressions[0].to_vec(),
+        sent: expressions(0)[0].to_vec(),
     }
 }
 

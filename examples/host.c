@@ -17,7 +17,10 @@ enum {
 /* One byte above the longest list is enough to know that a list is too long. */
 static uint8_t list[LONGEST_LIST + 1];
 
-/* The element: its store and its session, kept here between commands. */
+/*
+ * The element: its store and its session, kept here between commands. A host that is to find them after a reset keeps them after every command that is
+ * done, a get too, before it sends the response (examples/persist.h).
+ */
 static uint8_t store[ELEMENT_FACTORY_STORE_SIZE];
 static element_session session;
 

@@ -86,10 +86,31 @@ void persist_save(const uint8_t *store, const element_session *session)
     put_number(&w, sequence);
     put(&w, session->lcsg);
     put(&w, session->lcsa);
-    for (size_t i = 0; i < ELEMENT_FACTORY_STORE_SIZE; i++)
+    for (size_t i = 0; i < PERSIST_STORE_SIZE; i++)
         put(&w, store[i]);
     put_number(&w, w.sum);
     put_number(&w, MARKER);
+}
+
+/* Whether the newest copy is of this state. */
+static bool is_kept(const uint8_t *store, const element_session *session)
+{
+    unsigned copy = newest_copy();
+    if (copy == NO_COPY)
+        return false;
+    size_t start = copy_at(copy);
+    if (flash_read(start + PERSIST_LCSG) != session->lcsg || flash_read(start + PERSIST_LCSA) != session->lcsa)
+        return false;
+    for (size_t i = 0; i < PERSIST_STORE_SIZE; i++)
+        if (flash_read(start + PERSIST_STORE + i) != store[i])
+            return false;
+    return true;
+}
+
+void persist_keep(const uint8_t *store, const element_session *session)
+{
+    if (!is_kept(store, session))
+        persist_save(store, session);
 }
 
 bool persist_load(uint8_t *store, element_session *session)
@@ -98,10 +119,10 @@ bool persist_load(uint8_t *store, element_session *session)
     if (copy == NO_COPY)
         return false;
     size_t start = copy_at(copy);
-    for (size_t i = 0; i < ELEMENT_FACTORY_STORE_SIZE; i++)
+    for (size_t i = 0; i < PERSIST_STORE_SIZE; i++)
         store[i] = flash_read(start + PERSIST_STORE + i);
     *session = element_fresh_session();
     session->lcsg = flash_read(start + PERSIST_LCSG);
     session->lcsa = flash_read(start + PERSIST_LCSA);
-    return element_check_store(store, ELEMENT_FACTORY_STORE_SIZE);
+    return element_check_store(store, PERSIST_STORE_SIZE);
 }

@@ -29,7 +29,7 @@ extern "C" {
  * The version of this interface: it changes with the interface. The minor number rises where something is added, the major number where a host
  * that was written for the version before may have to be changed.
  */
-#define ELEMENT_VERSION_MAJOR 2
+#define ELEMENT_VERSION_MAJOR 3
 #define ELEMENT_VERSION_MINOR 0
 
 /* Outcome numbers: what a call returns. */
@@ -56,7 +56,7 @@ enum {
     ELEMENT_INVALID_LENGTH = 0x04,     /* the command's length, or InLen, is wrong */
     ELEMENT_INVALID_DATA = 0x05,       /* metadata, life cycle value or application identifier not allowed */
     ELEMENT_INTERNAL_ERROR = 0x06,     /* the store is malformed, or LcsG or LcsA is no state */
-    ELEMENT_ACCESS_DENIED = 0x07,      /* the access condition does not hold */
+    ELEMENT_ACCESS_DENIED = 0x07,      /* the access condition does not hold: a life cycle state, or a counter that is used up */
     ELEMENT_BOUNDARY_EXCEEDED = 0x08,  /* offset past used (get); past the maximum, or not all of a counter (write); at the threshold, or offset not 0 (count) */
     ELEMENT_INVALID_COMMAND = 0x0A,    /* unknown Cmd */
     ELEMENT_NOT_AVAILABLE = 0x0C,      /* the application is closed, or terminated */
@@ -87,6 +87,9 @@ enum {
  *
  * A get of data answers the bytes in use from offset on, at most length of them, and OutLen says how many: they may be fewer than length. With
  * offset equal to used there are none; an offset past used is refused with 08.
+ *
+ * A get of data asks the object's read expression, a write, an erase and write, a count and a set of metadata its change expression; a get of
+ * metadata asks none. Each that is done may use up counters (see access expressions below): so a get of data may change the store too.
  *
  * With ELEMENT_FLUSH set in Cmd, the last error becomes 0 first.
  */
@@ -162,7 +165,13 @@ enum {
 
 /*
  * Access expressions: the one byte ELEMENT_ALWAYS, the one byte ELEMENT_NEVER, or conditions joined by ELEMENT_AND and ELEMENT_OR; and binds
- * first. A condition is three bytes: whose state, how it is compared, a life cycle state.
+ * first. A condition is three bytes: whose state, how it is compared, a life cycle state; or ELEMENT_CONDITION_COUNTER and the number of a
+ * counter in two bytes, any two.
+ *
+ * The condition on a counter holds while a record of kind ELEMENT_KIND_COUNTER_UP with that number is in the store and its value is below its
+ * threshold. Where an expression grants a command, its first group from the left that holds decides: each counter named in that group goes up by
+ * one, once, if the command is done. A refused command moves nothing. A get shows a counter before its step. A counter that the command itself
+ * wrote or counted steps after that, to the smaller of value + 1 and threshold. The step asks no expression of the counter.
  */
 enum {
     ELEMENT_ALWAYS = 0x00,
@@ -170,6 +179,7 @@ enum {
     ELEMENT_CONDITION_LCSG = 0x70,
     ELEMENT_CONDITION_LCSA = 0xE0,
     ELEMENT_CONDITION_LCSO = 0xE1,
+    ELEMENT_CONDITION_COUNTER = 0x40,
     ELEMENT_EQUAL = 0xFA,
     ELEMENT_GREATER = 0xFB,
     ELEMENT_LESS = 0xFC,
@@ -218,6 +228,8 @@ typedef struct element_session {
  * A response is status, 00, OutLen in two bytes, OutData. Room bytes behind it keep their values.
  * A refused command changes no byte of the store and, of the session, only the last error, which after any flush is the larger of
  * itself and the number of the refusal. Room, store and session after a call are exactly those that the rules give.
+ * Every get of data and every set that is done may change the store, a get by the counters that its read expression uses up: a host that keeps
+ * the store over a reset keeps it after each of these, before it sends the response.
  */
 uint8_t element_execute(const uint8_t *command, size_t command_len, uint8_t *store, size_t store_len, element_session *session, uint8_t *room, size_t room_len);
 
@@ -226,6 +238,7 @@ uint8_t element_execute(const uint8_t *command, size_t command_len, uint8_t *sto
  * stand end to end, the i-th is sizes[i] bytes long; rooms stand end to end, the i-th is spaces[i] bytes long; the i-th outcome
  * number goes to outcomes[i]. There are as many commands as outcomes. (The value of the session's `opened` changes only if the
  * application ends in another state than it began in.)
+ * The store may be changed by gets of data too, as by element_execute.
  * Returns ELEMENT_ANSWERED; or ELEMENT_WRONG_SIZE with nothing changed, if there are fewer sizes or spaces than outcomes, or if they add up
  * to more than commands_len or rooms_len. Sizes and spaces past the last outcome are not looked at.
  */

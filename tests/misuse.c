@@ -360,15 +360,15 @@ static void check_constants(void)
         ELEMENT_TAG_METADATA, ELEMENT_TAG_LCSO, ELEMENT_TAG_MAXIMUM, ELEMENT_TAG_USED, ELEMENT_TAG_CHANGE, ELEMENT_TAG_READ, ELEMENT_TAG_EXECUTE
     };
     static const uint8_t expressions[] = {
-        ELEMENT_ALWAYS, ELEMENT_CONDITION_LCSG, ELEMENT_CONDITION_LCSA, ELEMENT_CONDITION_LCSO, ELEMENT_EQUAL, ELEMENT_GREATER, ELEMENT_LESS,
+        ELEMENT_ALWAYS, ELEMENT_CONDITION_COUNTER, ELEMENT_CONDITION_LCSG, ELEMENT_CONDITION_LCSA, ELEMENT_CONDITION_LCSO, ELEMENT_EQUAL, ELEMENT_GREATER, ELEMENT_LESS,
         ELEMENT_AND, ELEMENT_OR, ELEMENT_NEVER
     };
-    expect(ELEMENT_VERSION_MAJOR == 2 && ELEMENT_VERSION_MINOR == 0, "version 2.0");
+    expect(ELEMENT_VERSION_MAJOR == 3 && ELEMENT_VERSION_MINOR == 0, "version 3.0");
     expect(ELEMENT_WHOLE == 0xFFFF, "the length that asks for all");
     expect(ELEMENT_KIND_DATA == 1 && ELEMENT_KIND_COUNTER_UP == 2 && ELEMENT_KIND_COUNTER_DOWN == 4, "the kinds of records");
     expect(ELEMENT_COUNT == 2 && ELEMENT_COUNTER_SIZE == 8, "the Param of a count and the size of a counter");
     expect(memcmp(tags, "\x20\xC0\xC4\xC5\xD0\xD1\xD3", sizeof tags) == 0, "the metadata tags");
-    expect(memcmp(expressions, "\x00\x70\xE0\xE1\xFA\xFB\xFC\xFD\xFE\xFF", sizeof expressions) == 0, "the bytes of expressions");
+    expect(memcmp(expressions, "\x00\x40\x70\xE0\xE1\xFA\xFB\xFC\xFD\xFE\xFF", sizeof expressions) == 0, "the bytes of expressions");
     expect(ELEMENT_MAXIMUM_F1DX == 140 && ELEMENT_MAXIMUM_F1EX == 1500 && ELEMENT_FACTORY_OBJECTS == 14, "the factory's sizes");
 }
 

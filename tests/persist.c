@@ -1,6 +1,6 @@
 /*
- * Cuts the power at every byte that examples/persist.c writes or erases, starts again and loads: the state before or after, whole, is found. Then
- * the same with a single copy and no marker, which is torn.
+ * Cuts the power at every byte that examples/persist.c writes or erases, starts again and loads: the state before or after, whole, is found; also
+ * where a get has changed the store. Then the same with a single copy and no marker, which is torn.
  *
  * usage: persist [STRIDE]      every byte, or every STRIDE-th
  */
@@ -303,6 +303,81 @@ static void check_damage(long stride)
     printf("a bit of the newer copy changed, in each of %u bytes: the older state, whole; of both copies: nothing is loaded\n", bytes);
 }
 
+/* A get that uses up a counter. */
+
+enum {
+    TRIPS = 0xF1CE, /* a counter up, before the factory's first object; both take as many bytes as that did */
+    TICKET = 0xF1D0,
+    TICKET_SIZE = ELEMENT_MAXIMUM_F1DX - ELEMENT_RECORD_HEAD - ELEMENT_COUNTER_SIZE,
+    TICKET_AT = ELEMENT_RECORD_HEAD + ELEMENT_COUNTER_SIZE,
+    VALUE_AT = ELEMENT_RECORD_HEAD + 3, /* the last byte of the counter's value */
+    THRESHOLD = 3
+};
+
+/* The factory's store with F1D0 cut into a counter of trips and a ticket that is read by it. */
+static void make_ticket(element *e)
+{
+    static const uint8_t trips[] = {ELEMENT_RECORD_HEAD + ELEMENT_COUNTER_SIZE, 0, ELEMENT_KIND_COUNTER_UP, 0, TRIPS & 0xFF, TRIPS >> 8, 8, 0, 8, 0, 1};
+    static const uint8_t ticket[] = {ELEMENT_RECORD_HEAD + TICKET_SIZE, 0, ELEMENT_KIND_DATA, 0, TICKET & 0xFF, TICKET >> 8, TICKET_SIZE, 0, 1, 0, 1};
+    e->session = element_fresh_session();
+    e->session.opened = 1;
+    element_make_factory_store(e->store, STORE);
+    memset(e->store, 0, ELEMENT_RECORD_HEAD + ELEMENT_MAXIMUM_F1DX);
+    memcpy(e->store, trips, sizeof trips);
+    memcpy(e->store + TICKET_AT, ticket, sizeof ticket);
+    for (size_t slot = 12; slot < ELEMENT_RECORD_HEAD; slot += ELEMENT_SLOT)
+        e->store[slot] = e->store[TICKET_AT + slot] = 1;
+    e->store[VALUE_AT + 4] = THRESHOLD;
+    e->store[TICKET_AT + 40] = 3;
+    e->store[TICKET_AT + 41] = ELEMENT_CONDITION_COUNTER;
+    e->store[TICKET_AT + 42] = TRIPS >> 8;
+    e->store[TICKET_AT + 43] = TRIPS & 0xFF;
+    e->store[TICKET_AT + ELEMENT_RECORD_HEAD] = 0x54;
+}
+
+static void keep(const element *e)
+{
+    persist_keep(e->store, &e->session);
+}
+
+/* Gets of metadata and of the counter itself, which no condition grants: nothing is written. */
+static void check_plain_gets(const element *e)
+{
+    static const uint8_t metadata[] = {ELEMENT_GET, ELEMENT_METADATA, 0, 2, TICKET >> 8, TICKET & 0xFF};
+    static const uint8_t counter[] = {ELEMENT_GET, ELEMENT_DATA, 0, 6, TRIPS >> 8, TRIPS & 0xFF, 0, 0, 0, 8};
+    element same = *e;
+    send(&same, metadata, sizeof metadata);
+    send(&same, counter, sizeof counter);
+    expect(save_until(0, keep, &same), "nothing is written after gets that change nothing");
+}
+
+static void check_get(long stride)
+{
+    static const uint8_t get[] = {ELEMENT_GET, ELEMENT_DATA, 0, 6, TICKET >> 8, TICKET & 0xFF, 0, 0, 0, 1};
+    memset(flash, FLASH_ERASED, FLASH);
+    make_ticket(&old);
+    expect(element_check_store(old.store, STORE), "the store with a ticket is well formed");
+    save_whole(keep, &old);
+    check_plain_gets(&old);
+    for (unsigned trip = 1; trip <= THRESHOLD; trip++) {
+        new = old;
+        send(&new, get, sizeof get);
+        expect(new.store[VALUE_AT] == trip && memcmp(new.store, old.store, STORE) != 0, "get %u moves the counter", trip);
+        if (trip == THRESHOLD)
+            check_copies("the save after a get that uses up a counter", stride);
+        save_whole(keep, &new);
+        restart();
+        expect(is_now(&new), "the step of get %u is there after a reset", trip);
+        check_plain_gets(&new);
+        old = new;
+    }
+    now.session.opened = 1;
+    element_execute(get, sizeof get, now.store, STORE, &now.session, room, sizeof room);
+    expect(room[0] == ELEMENT_STATUS_REFUSED && now.session.error == ELEMENT_ACCESS_DENIED, "after a reset no trip is granted again");
+    expect(save_until(0, keep, &now), "nothing is written after a refusal");
+    printf("%d gets that use up a counter: each step is there after a reset, and gets that change nothing write nothing\n", THRESHOLD);
+}
+
 int main(int arguments, char **words)
 {
     long stride = arguments > 1 ? strtol(words[1], NULL, 10) : 1;
@@ -317,5 +392,6 @@ int main(int arguments, char **words)
     check_copies("a later save", stride);
     check_damage(stride);
     check_single();
+    check_get(stride);
     return 0;
 }

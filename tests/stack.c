@@ -34,8 +34,9 @@ static size_t spaces[LIST];
 static uint8_t outcomes[LIST];
 static size_t command_len, room_len, count;
 
-/* Commands that were done, counts among them, and refused with a number: so that every kind is seen to be there. */
-static unsigned done, counted, refused[256];
+/* Commands that were done, counts and gets that used up a counter among them, and refused with a number: so that every kind is seen to be there. */
+static unsigned done, counted, stepped, refused[256];
+static uint8_t before[ELEMENT_LARGEST_STORE];
 
 /* The painted stack. */
 
@@ -133,6 +134,18 @@ static uint8_t state(void)
     return one_of("\x01\x03\x07\x0F", 4);
 }
 
+/* A condition on a state, or on one of the counters of the largest store. */
+static void put_condition(uint8_t *at)
+{
+    at[0] = one_of("\x70\xE0\xE1\x40\x40", 5);
+    at[1] = one_of("\xFA\xFB\xFC", 3);
+    at[2] = state();
+    if (at[0] == ELEMENT_CONDITION_COUNTER) {
+        at[1] = 0xF1;
+        at[2] = (uint8_t)(0xD3 + 4 * below(8));
+    }
+}
+
 /* An expression of so many conditions, after its length; none is 00. Returns the bytes put. */
 static size_t put_expression(uint8_t *at, size_t conditions)
 {
@@ -141,9 +154,7 @@ static size_t put_expression(uint8_t *at, size_t conditions)
     at[1] = 0x00;
     for (size_t i = 0; i < conditions; i++) {
         uint8_t *condition = at + 1 + 4 * i;
-        condition[0] = one_of("\x70\xE0\xE1", 3);
-        condition[1] = one_of("\xFA\xFB\xFC", 3);
-        condition[2] = state();
+        put_condition(condition);
         if (i + 1 < conditions)
             condition[3] = i == 1 || i == 3 ? 0xFE : 0xFD;
     }
@@ -308,6 +319,11 @@ static bool is_count(void)
     return (commands[0] & ~ELEMENT_FLUSH) == ELEMENT_SET && commands[1] == ELEMENT_COUNT;
 }
 
+static bool is_get(void)
+{
+    return (commands[0] & ~ELEMENT_FLUSH) == ELEMENT_GET;
+}
+
 static void note(uint8_t outcome, uint8_t status, uint8_t error)
 {
     if (outcome != ELEMENT_ANSWERED)
@@ -315,6 +331,7 @@ static void note(uint8_t outcome, uint8_t status, uint8_t error)
     if (status == ELEMENT_STATUS_DONE) {
         done++;
         counted += is_count();
+        stepped += is_get() && memcmp(before, store, store_len) != 0;
     } else
         refused[error]++;
 }
@@ -324,6 +341,7 @@ static void try_execute(void)
     begin();
     command_len = put_command(commands);
     room_len = some_space();
+    memcpy(before, store, store_len);
     call_on_stack(call_execute);
     note(outcomes[0], rooms[0], session.error);
 }
@@ -389,7 +407,7 @@ static size_t deepest(void (*attempt)(void))
     return most;
 }
 
-/* Every refusal of the header has been seen, and commands that were done, counts among them. */
+/* Every refusal of the header has been seen, and commands that were done, counts and gets that used up a counter among them. */
 static bool all_kinds(void)
 {
     static const uint8_t numbers[] = {0x01, 0x03, 0x04, 0x05, 0x06, 0x07, 0x08, 0x0A, 0x0C, 0x0D};
@@ -398,8 +416,8 @@ static bool all_kinds(void)
             printf("no command was refused with %02X\n", (unsigned)numbers[i]);
             return false;
         }
-    if (counted == 0) {
-        printf("no count was done\n");
+    if (counted == 0 || stepped == 0) {
+        printf("no count was done, or no get that used up a counter\n");
         return false;
     }
     return done > ROUNDS / 4;
@@ -417,6 +435,7 @@ int main(int arguments, char **words)
     }
     if (!all_kinds())
         return 1;
-    printf("%d calls of each entry on a stack of their own; of the commands %u were done, %u of them counts, the others refused with every number\n", 2 * ROUNDS, done, counted);
+    printf("%d calls of each entry on a stack of their own; of the commands %u were done, %u of them counts and %u gets that used up a counter, the others"
+        " refused with every number\n", 2 * ROUNDS, done, counted, stepped);
     return within ? 0 : 1;
 }

@@ -64,6 +64,14 @@ impl Counter {
         };
         Some(Counter { value, ..self })
     }
+
+    /// The up counter after a step that a condition takes: never refused, and to
+    /// the threshold at most, also from a value past it.
+    pub fn used_up(self) -> Counter {
+        debug_assert_eq!(self.direction, Direction::Up);
+        let value = self.value.saturating_add(1).min(self.threshold);
+        Counter { value, ..self }
+    }
 }
 
 fn number_at(data: &[u8], place: usize) -> u32 {
@@ -122,6 +130,30 @@ mod tests {
             assert_eq!(up(0, 0, step), None);
             assert_eq!(up(0xFFFF_FFFF, 0, step), None);
             assert_eq!(up(0xFFFF_FFFF, 0xFFFF_FFFF, step), None);
+        }
+    }
+
+    #[test]
+    fn used_up() {
+        for (value, threshold, after) in [
+            (10, 20, 11),
+            (18, 20, 19),
+            (19, 20, 20),
+            (20, 20, 20),
+            (21, 20, 20),
+            (u32::MAX, 20, 20),
+            (0, 0, 0),
+            (u32::MAX, 0, 0),
+            (u32::MAX - 1, u32::MAX, u32::MAX),
+            (u32::MAX, u32::MAX, u32::MAX),
+        ] {
+            let direction = Direction::Up;
+            let [before, after] = [value, after].map(|value| Counter {
+                direction,
+                value,
+                threshold,
+            });
+            assert_eq!(before.used_up(), after);
         }
     }
 

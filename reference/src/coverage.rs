@@ -2,6 +2,7 @@
 
 pub mod counters;
 pub mod reads;
+pub mod used_counters;
 
 use std::fmt::{self, Display, Write};
 
@@ -19,6 +20,7 @@ use crate::session::{is_state, SessionObject, TERMINATION};
 use crate::store::{self, check_store, judge_store, Fault, Record, Slot};
 use counters::{CounterRow, Standing};
 use reads::ReadRow;
+use used_counters::UsedRow;
 
 /// A row of the coverage table.
 #[derive(Clone, Copy, Debug, PartialEq, Eq)]
@@ -505,6 +507,7 @@ pub struct Coverage {
     reads: Tally<ReadRow>,
     counters: Tally<CounterRow>,
     standings: Tally<(Direction, Standing)>,
+    used: Tally<UsedRow>,
     errors: Vec<String>,
 }
 
@@ -525,6 +528,7 @@ pub fn cover(seed: u64, count: usize) -> Coverage {
         reads: Tally::new(ReadRow::all()),
         counters: Tally::new(CounterRow::all()),
         standings: Tally::new(Standing::all()),
+        used: Tally::new(UsedRow::all()),
         errors: Vec::new(),
     };
     let mut state = State::empty();
@@ -620,7 +624,15 @@ impl Coverage {
         for row in event.counter_rows() {
             self.counters.add(row);
         }
-        if let Some(error) = disagreement(command, verdict, outcome, room, &before, state) {
+        for row in event.used_rows() {
+            self.used.add(row);
+        }
+        let used = event.used_disagreement();
+        let errors = [
+            disagreement(command, verdict, outcome, room, &before, state),
+            used,
+        ];
+        for error in errors.into_iter().flatten() {
             self.errors.push(format!("{error}: {command:02X?}"));
         }
     }
@@ -660,6 +672,10 @@ impl Coverage {
             .standings
             .missing()
             .map(|standing| format!("stored counter {standing:?}"));
+        let used = self
+            .used
+            .missing()
+            .map(|row| format!("condition on a counter {row:?}"));
         cells
             .chain(damages)
             .chain(faults)
@@ -668,6 +684,7 @@ impl Coverage {
             .chain(reads)
             .chain(counters)
             .chain(standings)
+            .chain(used)
             .collect()
     }
 
@@ -719,7 +736,8 @@ impl Coverage {
             "counts, and other commands at counters",
             &self.counters,
         )?;
-        put_tally(text, "counters of well-formed stores", &self.standings)
+        put_tally(text, "counters of well-formed stores", &self.standings)?;
+        put_tally(text, "conditions that use up counters", &self.used)
     }
 
     fn put_unreachable(&self, text: &mut String) -> fmt::Result {

@@ -3,6 +3,7 @@
 use std::ops::Range;
 
 use crate::counter::{self, Counter};
+use crate::expression::CounterSet;
 use crate::kinds::{end_of, Length, ObjectNumber, Offset};
 use crate::metadata::{self, Changes};
 use crate::session::{may_become, Session, SessionObject, TERMINATION};
@@ -120,6 +121,23 @@ pub enum Action<'c> {
     Close,
 }
 
+/// An action that no step refuses, and the counters that its access uses up.
+#[derive(Clone, Debug, PartialEq, Eq)]
+pub struct Granted<'c> {
+    pub action: Action<'c>,
+    pub counters: CounterSet,
+}
+
+impl<'c> Granted<'c> {
+    /// An action that no expression was asked for.
+    fn unasked(action: Action<'c>) -> Granted<'c> {
+        Granted {
+            action,
+            counters: CounterSet::EMPTY,
+        }
+    }
+}
+
 /// Executes one command. The store and the room change in place.
 pub fn execute(command: &[u8], store: &mut [u8], session: Session, room: &mut [u8]) -> Answer {
     if room.len() < HEADER {
@@ -130,7 +148,11 @@ pub fn execute(command: &[u8], store: &mut [u8], session: Session, room: &mut [u
     }
     let session = flush(command, session);
     let session = match judge(command, store, session, room.len()) {
-        Ok(action) => perform(action, store, session, room),
+        Ok(granted) => {
+            let session = perform(granted.action, store, session, room);
+            store::use_up(store, &granted.counters);
+            session
+        }
         Err(refusal) => refuse(refusal, session, room),
     };
     Answer {
@@ -153,7 +175,7 @@ pub fn judge<'c>(
     store: &[u8],
     session: Session,
     room: usize,
-) -> Result<Action<'c>, Refusal> {
+) -> Result<Granted<'c>, Refusal> {
     // Step 2.
     require(
         store::check_store(store) && session.is_valid(),
@@ -182,7 +204,7 @@ pub fn judge<'c>(
         Row::Count => judge_count(in_data, store, session),
         Row::SetMetadata => judge_set_metadata(in_data, store, session),
         Row::Open => judge_open(in_data),
-        Row::Close => Ok(Action::Close),
+        Row::Close => Ok(Granted::unasked(Action::Close)),
     }
 }
 
@@ -279,6 +301,17 @@ fn find_object(in_data: &[u8], store: &[u8]) -> Result<Object, Refusal> {
         .ok_or(Refusal::NoSuchObject)
 }
 
+/// Step 10 at a stored object: the counters that its access uses up.
+fn judge_access(
+    record: Record<'_>,
+    slot: Slot,
+    session: Session,
+    store: &[u8],
+) -> Result<CounterSet, Refusal> {
+    let judged = record.judge(slot, session, store);
+    judged.ok_or(Refusal::NoAccess)
+}
+
 /// Step 11 of a write.
 fn require_within(offset: Offset, length: Length, limit: usize) -> Result<(), Refusal> {
     require(end_of(offset, length) <= limit, Refusal::OutOfBounds)
@@ -300,25 +333,27 @@ fn judge_get_data<'c>(
     store: &[u8],
     session: Session,
     room: usize,
-) -> Result<Action<'c>, Refusal> {
+) -> Result<Granted<'c>, Refusal> {
     let offset = Offset(number_at(in_data, 2));
     let length = Length(number_at(in_data, 4));
     match find_object(in_data, store)? {
         Object::Session(object) => {
             let shown = length_shown(offset, length, SESSION_OBJECT_SIZE)?;
             require_room(shown.0, room)?;
-            Ok(Action::AnswerSessionObject { object, shown })
+            let action = Action::AnswerSessionObject { object, shown };
+            Ok(Granted::unasked(action))
         }
         Object::Stored(place) => {
             let record = Record::at(store, place.clone());
-            require(record.grants(Slot::Read, session), Refusal::NoAccess)?;
+            let counters = judge_access(record, Slot::Read, session, store)?;
             let shown = length_shown(offset, length, record.used())?;
             require_room(shown.0, room)?;
-            Ok(Action::AnswerData {
+            let action = Action::AnswerData {
                 record: place,
                 offset,
                 shown,
-            })
+            };
+            Ok(Granted { action, counters })
         }
     }
 }
@@ -327,13 +362,13 @@ fn judge_get_metadata<'c>(
     in_data: &[u8],
     store: &[u8],
     room: usize,
-) -> Result<Action<'c>, Refusal> {
+) -> Result<Granted<'c>, Refusal> {
     let Object::Stored(place) = find_object(in_data, store)? else {
         return Err(Refusal::NoAccess);
     };
     let record = Record::at(store, place.clone());
     require_room(metadata::answer_length(record), room)?;
-    Ok(Action::AnswerMetadata { record: place })
+    Ok(Granted::unasked(Action::AnswerMetadata { record: place }))
 }
 
 fn judge_write<'c>(
@@ -341,21 +376,22 @@ fn judge_write<'c>(
     store: &[u8],
     session: Session,
     erase: bool,
-) -> Result<Action<'c>, Refusal> {
+) -> Result<Granted<'c>, Refusal> {
     let offset = Offset(number_at(in_data, 2));
     let bytes = &in_data[4..];
     match find_object(in_data, store)? {
         Object::Session(object) => judge_session_write(object, offset, bytes, session),
         Object::Stored(place) => {
             let record = Record::at(store, place.clone());
-            require(record.grants(Slot::Change, session), Refusal::NoAccess)?;
+            let counters = judge_access(record, Slot::Change, session, store)?;
             require_write_fits(record, offset, Length(bytes.len()))?;
-            Ok(Action::Write {
+            let action = Action::Write {
                 record: place,
                 offset,
                 bytes,
                 erase,
-            })
+            };
+            Ok(Granted { action, counters })
         }
     }
 }
@@ -376,17 +412,17 @@ fn judge_session_write<'c>(
     offset: Offset,
     bytes: &[u8],
     session: Session,
-) -> Result<Action<'c>, Refusal> {
+) -> Result<Granted<'c>, Refusal> {
     require(object != SessionObject::LastError, Refusal::NoAccess)?;
     require_within(offset, Length(bytes.len()), SESSION_OBJECT_SIZE)?;
     // Within bounds, a write has one byte at offset 0.
     let state = bytes[0];
     require(may_become(session.byte(object), state), Refusal::WrongValue)?;
-    Ok(Action::SetLifeCycle { object, state })
+    Ok(Granted::unasked(Action::SetLifeCycle { object, state }))
 }
 
 /// Steps 9 to 11 of a count; right after access, the kind.
-fn judge_count<'c>(in_data: &[u8], store: &[u8], session: Session) -> Result<Action<'c>, Refusal> {
+fn judge_count<'c>(in_data: &[u8], store: &[u8], session: Session) -> Result<Granted<'c>, Refusal> {
     let offset = Offset(number_at(in_data, 2));
     let step = in_data[4];
     match find_object(in_data, store)? {
@@ -394,14 +430,15 @@ fn judge_count<'c>(in_data: &[u8], store: &[u8], session: Session) -> Result<Act
         Object::Session(SessionObject::LcsG | SessionObject::LcsA) => Err(Refusal::WrongParam),
         Object::Stored(place) => {
             let record = Record::at(store, place.clone());
-            require(record.grants(Slot::Change, session), Refusal::NoAccess)?;
+            let counters = judge_access(record, Slot::Change, session, store)?;
             let counter = record.counter().ok_or(Refusal::WrongParam)?;
             require(offset == Offset(0), Refusal::OutOfBounds)?;
             let counter = counter.count(step).ok_or(Refusal::OutOfBounds)?;
-            Ok(Action::Count {
+            let action = Action::Count {
                 record: place,
                 counter,
-            })
+            };
+            Ok(Granted { action, counters })
         }
     }
 }
@@ -410,24 +447,25 @@ fn judge_set_metadata<'c>(
     in_data: &'c [u8],
     store: &[u8],
     session: Session,
-) -> Result<Action<'c>, Refusal> {
+) -> Result<Granted<'c>, Refusal> {
     let Object::Stored(place) = find_object(in_data, store)? else {
         return Err(Refusal::NoAccess);
     };
     let record = Record::at(store, place.clone());
-    require(record.grants(Slot::Change, session), Refusal::NoAccess)?;
+    let counters = judge_access(record, Slot::Change, session, store)?;
     let changes =
         metadata::read_changes(&in_data[2..], record.lcso()).ok_or(Refusal::WrongValue)?;
-    Ok(Action::ChangeMetadata {
+    let action = Action::ChangeMetadata {
         record: place,
         changes,
-    })
+    };
+    Ok(Granted { action, counters })
 }
 
 /// Step 8.
-fn judge_open<'c>(in_data: &[u8]) -> Result<Action<'c>, Refusal> {
+fn judge_open<'c>(in_data: &[u8]) -> Result<Granted<'c>, Refusal> {
     require(in_data == IDENTIFIER, Refusal::WrongValue)?;
-    Ok(Action::Open)
+    Ok(Granted::unasked(Action::Open))
 }
 
 /// Writes the refusal and keeps the highest error.

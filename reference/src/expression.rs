@@ -1,10 +1,12 @@
-//! Access expressions: their form and whether they hold.
+//! Access expressions: their form, whether they hold, and the counters they move.
 
+use crate::kinds::ObjectNumber;
 use crate::session::is_state;
 
+pub const MOST_CONDITIONS: usize = 7;
+pub const MOST_GROUPS: usize = 3;
 /// The most bytes an expression takes: seven conditions and six joins.
 pub const LONGEST: usize = 27;
-pub const MOST_GROUPS: usize = 3;
 
 pub const ALWAYS: u8 = 0x00;
 pub const NEVER: u8 = 0xFF;
@@ -12,6 +14,8 @@ pub const NEVER: u8 = 0xFF;
 pub const LCSG: u8 = 0x70;
 pub const LCSA: u8 = 0xE0;
 pub const LCSO: u8 = 0xE1;
+/// Leads a condition on an up counter; its number follows.
+pub const COUNTER: u8 = 0x40;
 
 pub const EQUAL: u8 = 0xFA;
 pub const GREATER: u8 = 0xFB;
@@ -59,37 +63,94 @@ fn is_chain(expression: &[u8]) -> bool {
     groups <= MOST_GROUPS
 }
 
-fn is_condition(life_cycle: u8, operator: u8, reference: u8) -> bool {
-    matches!(life_cycle, LCSG | LCSA | LCSO)
-        && matches!(operator, EQUAL | GREATER | LESS)
-        && is_state(reference)
-}
-
-/// Whether a well-formed expression holds in the given states.
-pub fn holds(expression: &[u8], states: States) -> bool {
-    match expression {
-        [ALWAYS] => true,
-        [NEVER] => false,
-        _ => some_group_holds(expression, states),
+fn is_condition(first: u8, second: u8, third: u8) -> bool {
+    match first {
+        COUNTER => true,
+        LCSG | LCSA | LCSO => matches!(second, EQUAL | GREATER | LESS) && is_state(third),
+        _ => false,
     }
 }
 
-/// Whether, in some group between ors, all conditions hold.
-fn some_group_holds(expression: &[u8], states: States) -> bool {
-    let mut group_holds = true;
-    for part in expression.chunks(CONDITION_AND_JOIN) {
-        group_holds &= condition_holds(part[0], part[1], part[2], states);
-        if part.get(CONDITION) == Some(&OR) {
-            if group_holds {
-                return true;
-            }
-            group_holds = true;
+/// The counters named in a group, each once.
+#[derive(Clone, Copy, Debug, PartialEq, Eq)]
+pub struct CounterSet {
+    numbers: [ObjectNumber; MOST_CONDITIONS],
+    count: usize,
+}
+
+impl CounterSet {
+    pub const EMPTY: CounterSet = CounterSet {
+        numbers: [ObjectNumber(0); MOST_CONDITIONS],
+        count: 0,
+    };
+
+    pub fn numbers(&self) -> &[ObjectNumber] {
+        &self.numbers[..self.count]
+    }
+
+    fn insert(&mut self, number: ObjectNumber) {
+        if !self.numbers().contains(&number) {
+            self.numbers[self.count] = number;
+            self.count += 1;
         }
     }
-    group_holds
 }
 
-fn condition_holds(life_cycle: u8, operator: u8, reference: u8, states: States) -> bool {
+/// Judges a well-formed expression: the counters to move if it holds.
+/// `is_below` tells whether a number is that of an up counter below its threshold.
+pub fn judge(
+    expression: &[u8],
+    states: States,
+    is_below: impl Fn(ObjectNumber) -> bool,
+) -> Option<CounterSet> {
+    match expression {
+        [ALWAYS] => Some(CounterSet::EMPTY),
+        [NEVER] => None,
+        _ => judge_groups(expression, states, is_below),
+    }
+}
+
+/// The counters of the first group between ors in which all conditions hold.
+fn judge_groups(
+    expression: &[u8],
+    states: States,
+    is_below: impl Fn(ObjectNumber) -> bool,
+) -> Option<CounterSet> {
+    let mut group_holds = true;
+    let mut counters = CounterSet::EMPTY;
+    for part in expression.chunks(CONDITION_AND_JOIN) {
+        group_holds &= match counter_of(part) {
+            Some(number) => {
+                counters.insert(number);
+                is_below(number)
+            }
+            None => state_holds(part[0], part[1], part[2], states),
+        };
+        if part.get(CONDITION) == Some(&OR) {
+            if group_holds {
+                return Some(counters);
+            }
+            group_holds = true;
+            counters = CounterSet::EMPTY;
+        }
+    }
+    group_holds.then_some(counters)
+}
+
+/// The counter that a condition at the front of the bytes names.
+fn counter_of(part: &[u8]) -> Option<ObjectNumber> {
+    match *part {
+        [COUNTER, high, low, ..] => Some(ObjectNumber(u16::from_be_bytes([high, low]))),
+        _ => None,
+    }
+}
+
+/// The counters that a well-formed expression names, in all of its groups.
+pub fn counters_named(expression: &[u8]) -> impl Iterator<Item = ObjectNumber> + '_ {
+    expression.chunks(CONDITION_AND_JOIN).filter_map(counter_of)
+}
+
+fn state_holds(life_cycle: u8, operator: u8, reference: u8, states: States) -> bool {
     let current = match life_cycle {
         LCSG => states.lcsg,
         LCSA => states.lcsa,
@@ -111,6 +172,17 @@ mod tests {
         lcsa: 1,
         lcso: 1,
     };
+
+    /// Judges an expression without conditions on counters.
+    fn holds(expression: &[u8], states: States) -> bool {
+        match judge(expression, states, |_| panic!("no counter is named")) {
+            Some(counters) => {
+                assert_eq!(counters, CounterSet::EMPTY);
+                true
+            }
+            None => false,
+        }
+    }
 
     /// `count` conditions joined by the given joins.
     fn chain(count: usize, join: impl Fn(usize) -> u8) -> Vec<u8> {
@@ -135,9 +207,10 @@ mod tests {
         for life_cycle in 0..=255u8 {
             for operator in 0..=255u8 {
                 for reference in [0x00, 0x01, 0x03, 0x04, 0x07, 0x08, 0x0F, 0x10, 0xFF] {
-                    let expected = [0x70, 0xE0, 0xE1].contains(&life_cycle)
-                        && [0xFA, 0xFB, 0xFC].contains(&operator)
-                        && [0x01, 0x03, 0x07, 0x0F].contains(&reference);
+                    let expected = life_cycle == 0x40
+                        || [0x70, 0xE0, 0xE1].contains(&life_cycle)
+                            && [0xFA, 0xFB, 0xFC].contains(&operator)
+                            && [0x01, 0x03, 0x07, 0x0F].contains(&reference);
                     assert_eq!(is_well_formed(&[life_cycle, operator, reference]), expected);
                 }
             }
@@ -236,5 +309,66 @@ mod tests {
                 }
             }
         }
+    }
+
+    /// The numbers moved where those of `below` are below their thresholds.
+    fn moved(expression: &[u8], below: &[u16]) -> Option<Vec<u16>> {
+        assert!(is_well_formed(expression));
+        let judged = judge(expression, FRESH, |number| below.contains(&number.0));
+        judged.map(|counters| counters.numbers().iter().map(|number| number.0).collect())
+    }
+
+    #[test]
+    fn any_number_of_a_counter() {
+        for number in 0..=0xFFFF {
+            let [high, low] = u16::to_be_bytes(number);
+            let expression = [COUNTER, high, low];
+            assert_eq!(moved(&expression, &[number]), Some(vec![number]));
+            assert_eq!(moved(&expression, &[number.wrapping_add(1)]), None);
+        }
+    }
+
+    #[test]
+    fn lengths_of_a_counter() {
+        for length in 0..=12 {
+            let bytes = [COUNTER; 12];
+            assert_eq!(is_well_formed(&bytes[..length]), length == 3, "{length}");
+        }
+    }
+
+    #[test]
+    fn the_first_true_group_moves() {
+        // 0001 and 0002, or 0003, or 0001 and LcsG is 01.
+        let expression = b"\x40\x00\x01\xFD\x40\x00\x02\xFE\x40\x00\x03\xFE\
+                           \x40\x00\x01\xFD\x70\xFA\x01";
+        assert_eq!(moved(expression, &[1, 2, 3]), Some(vec![1, 2]));
+        assert_eq!(moved(expression, &[1, 3]), Some(vec![3]));
+        assert_eq!(moved(expression, &[2, 3]), Some(vec![3]));
+        assert_eq!(moved(expression, &[1]), Some(vec![1]));
+        assert_eq!(moved(expression, &[2]), None);
+        assert_eq!(moved(expression, &[]), None);
+    }
+
+    #[test]
+    fn joins_stand_at_fixed_places() {
+        // FDFE and FEFD, or FEFE.
+        let expression = b"\x40\xFD\xFE\xFD\x40\xFE\xFD\xFE\x40\xFE\xFE";
+        assert_eq!(
+            moved(expression, &[0xFDFE, 0xFEFD]),
+            Some(vec![0xFDFE, 0xFEFD])
+        );
+        assert_eq!(moved(expression, &[0xFDFE, 0xFEFE]), Some(vec![0xFEFE]));
+        assert_eq!(moved(expression, &[0xFDFE]), None);
+        let named: Vec<ObjectNumber> = counters_named(expression).collect();
+        assert_eq!(named, [0xFDFE, 0xFEFD, 0xFEFE].map(ObjectNumber));
+    }
+
+    #[test]
+    fn a_counter_stands_once_in_the_set() {
+        let seven = [&b"\x40\x12\x34\xFD"[..]; 7].concat();
+        assert_eq!(moved(&seven[..27], &[0x1234]), Some(vec![0x1234]));
+        let others: Vec<u8> = (1..=7).flat_map(|low| [0x40, 0, low, AND]).collect();
+        let numbers: Vec<u16> = (1..=7).collect();
+        assert_eq!(moved(&others[..27], &numbers), Some(numbers));
     }
 }

@@ -10,6 +10,7 @@ pub mod factory;
 pub mod generator;
 pub mod kinds;
 pub mod metadata;
+pub mod mix_check;
 pub mod program;
 pub mod replay;
 pub mod session;

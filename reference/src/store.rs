@@ -3,7 +3,7 @@
 use std::ops::Range;
 
 use crate::counter::{self, Counter, Direction};
-use crate::expression::{self, States};
+use crate::expression::{self, CounterSet, States};
 use crate::kinds::{Length, ObjectNumber, Offset};
 use crate::session::{is_state, Session, SessionObject};
 
@@ -269,14 +269,17 @@ impl<'s> Record<'s> {
         &bytes[1..1 + usize::from(bytes[0])]
     }
 
-    /// Whether the slot's expression holds in this session.
-    pub fn grants(self, slot: Slot, session: Session) -> bool {
+    /// Judges the slot's expression in this session and the record's store: the
+    /// counters to move if it holds.
+    pub fn judge(self, slot: Slot, session: Session, store: &[u8]) -> Option<CounterSet> {
         let states = States {
             lcsg: session.lcsg,
             lcsa: session.lcsa,
             lcso: self.lcso(),
         };
-        expression::holds(self.expression(slot), states)
+        expression::judge(self.expression(slot), states, |number| {
+            is_below_threshold(store, number)
+        })
     }
 
     /// The part of the data that a read shows.
@@ -338,6 +341,28 @@ impl<'s> RecordMut<'s> {
 /// The place of an object's record in a well-formed store.
 pub fn find(store: &[u8], object: ObjectNumber) -> Option<Range<usize>> {
     records(store).find_map(|(place, record)| (record.object() == object).then_some(place))
+}
+
+/// The place and the state of an up counter in a well-formed store.
+fn find_up_counter(store: &[u8], number: ObjectNumber) -> Option<(Range<usize>, Counter)> {
+    let place = find(store, number)?;
+    let counter = Record::at(store, place.clone()).counter()?;
+    (counter.direction == Direction::Up).then_some((place, counter))
+}
+
+/// Whether an up counter of this number exists and can still go up.
+fn is_below_threshold(store: &[u8], number: ObjectNumber) -> bool {
+    find_up_counter(store, number).is_some_and(|(_, counter)| !counter.is_reached())
+}
+
+/// Moves each of the counters by one.
+pub fn use_up(store: &mut [u8], counters: &CounterSet) {
+    for &number in counters.numbers() {
+        if let Some((place, counter)) = find_up_counter(store, number) {
+            let mut record = RecordMut::at(store, place);
+            record.data().copy_from_slice(&counter.used_up().to_data());
+        }
+    }
 }
 
 /// The records of a well-formed store with their places.

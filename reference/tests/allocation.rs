@@ -44,6 +44,9 @@ fn execute_does_not_allocate() {
         set_metadata(0xF1D0, &hex("C0 01 03 D1 01 FF")),
         get_data(0xF1D0, 0, 6),
         get_data(0xF1C2, 0, 1),
+        set_metadata(0xF1D1, &hex("D0 07 E1 FA 0F FE 40 10 00")),
+        write(0xF1D1, 0, &[1]),
+        write(0xF1D1, 0, &[2]),
         vec![],
     ];
     let mut room = [0; 1_504];
@@ -54,4 +57,7 @@ fn execute_does_not_allocate() {
     }
     assert_eq!(ALLOCATIONS.get(), before);
     assert!(element.session.opened);
+    // One count and one write that used up the counter; then there is no access.
+    assert_eq!(element.data(0x1000), hex("00000009 00000009"));
+    assert_eq!(element.data(0xF1D1)[0], 1);
 }

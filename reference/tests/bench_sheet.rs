@@ -3,7 +3,7 @@
 mod common;
 
 use common::{chain, factory_store, get_data, hex, set_metadata, write, Element, DONE, OPEN};
-use reference::expression::{holds, States};
+use reference::expression::{judge, CounterSet, States};
 use reference::store::{check_store, Slot};
 use reference::{fresh_session, make_factory_store, program, Session};
 
@@ -83,7 +83,8 @@ fn p11_and_binds_first() {
         lcsa: 0x03,
         lcso: 0x07,
     };
-    assert!(holds(&expression, states));
+    let judged = judge(&expression, states, |_| false);
+    assert_eq!(judged, Some(CounterSet::EMPTY));
     let mut element = Element::opened();
     element.set_expression(0xF1D0, Slot::Read, &expression);
     element.set_lcso(0xF1D0, 0x07);

@@ -4,6 +4,7 @@ mod common;
 
 use std::io::Write;
 use std::process::{Command, Output, Stdio};
+use std::thread;
 
 use common::{hex, OPEN};
 
@@ -16,8 +17,15 @@ fn run(program: &str, arguments: &[&str], input: &[u8]) -> Output {
         .stderr(Stdio::piped())
         .spawn()
         .unwrap();
-    child.stdin.take().unwrap().write_all(input).unwrap();
-    child.wait_with_output().unwrap()
+    let mut stdin = child.stdin.take().unwrap();
+    // Written while the output is read, so that neither waits for the other.
+    thread::scope(|scope| {
+        scope.spawn(move || {
+            // A program may end before it has read all.
+            let _ = stdin.write_all(input);
+        });
+        child.wait_with_output().unwrap()
+    })
 }
 
 fn bench(input: &[u8]) -> Vec<u8> {
@@ -59,6 +67,30 @@ fn replay_lines() {
     assert!(output.lines().filter(|line| line.starts_with("C ")).count() >= 50);
 }
 
+fn check_mixes(arguments: &[&str], input: &[u8]) -> Output {
+    run(env!("CARGO_BIN_EXE_check_mixes"), arguments, input)
+}
+
+#[test]
+fn mixes_are_checked() {
+    assert_eq!(check_mixes(&["1"], &[]).status.code(), Some(2));
+    assert_eq!(check_mixes(&["1", "x"], &[]).status.code(), Some(2));
+    let mixes = generate(&["mixes", "2", "100"]);
+    assert!(mixes.status.success());
+    let mut output = replay(&mixes.stdout);
+    let checked = check_mixes(&["2", "100"], &output);
+    assert!(checked.status.success());
+    let text = String::from_utf8(checked.stdout).unwrap();
+    assert_eq!(text.lines().count(), 1);
+    assert!(text.contains("alike in all orders"));
+    output.extend_from_slice(b"S 1\n");
+    let checked = check_mixes(&["2", "100"], &output);
+    assert_eq!(checked.status.code(), Some(1));
+    assert_eq!(checked.stdout, b"the input goes on after the last pair\n");
+    let checked = check_mixes(&["2", "100"], b"S 1\n");
+    assert_eq!(checked.status.code(), Some(1));
+}
+
 #[test]
 fn generate_calls() {
     assert_eq!(generate(&[]).status.code(), Some(2));
@@ -80,6 +112,8 @@ fn generate_calls() {
         "counter Count",
         "counter Write",
         "stored counter ",
+        "condition on a counter Granted",
+        "condition on a counter Own",
     ] {
         assert!(text.contains(&format!("never occurred: {missing}")));
     }

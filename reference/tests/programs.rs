@@ -269,7 +269,9 @@ fn lists_hold_short_reads() {
 
 #[test]
 fn cases_cover_every_reachable_cell() {
-    let coverage = cover(1, 20_000);
-    assert_eq!(coverage.missing(), Vec::<String>::new());
-    assert_eq!(coverage.errors(), &[] as &[String]);
+    for seed in 1..=3 {
+        let coverage = cover(seed, 20_000);
+        assert_eq!(coverage.missing(), Vec::<String>::new());
+        assert_eq!(coverage.errors(), &[] as &[String]);
+    }
 }

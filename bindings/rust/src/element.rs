@@ -102,6 +102,8 @@ impl<'a> Element<'a> {
     /// Reads data of an object into the room and gives it: the bytes in use from the offset on, at most the length. So it may be fewer bytes than
     /// asked; at the end of the bytes in use it is none. The room has [`HEADER`] bytes more than what is given.
     ///
+    /// A read that is done changes the store where its read expression uses up a [counter](crate::expression::counter), also if it gives no byte.
+    ///
     /// [`Refusal::BoundaryExceeded`] where the offset is past the bytes in use.
     ///
     /// ```
@@ -178,7 +180,7 @@ impl<'a> Element<'a> {
     /// Counts: moves a counter's value by the step towards its threshold, at most onto it. A step of 0 changes nothing.
     ///
     /// [`Refusal::InvalidParam`] where the object is no counter, [`Refusal::BoundaryExceeded`] where the value is at its threshold, or past it,
-    /// already; the change expression is asked as by a write.
+    /// already; the change expression is asked as by a write. Where that names the counter itself, it steps once more, at most onto the threshold.
     ///
     /// ```
     /// # use element::{Counter, Element, Error, ObjectNumber, Refusal, Session};
@@ -200,9 +202,10 @@ impl<'a> Element<'a> {
         self.change(&[SET, COUNT, 0, 5, high, low, 0, 0, step])
     }
 
-    /// Reads value and threshold of a counter. The record's kind is not looked at: of other data the first eight bytes are read so.
+    /// Reads value and threshold of a counter. The record's kind is not looked at: of other data the first eight bytes are read so. A counter whose own
+    /// read expression uses it up is given as it is before its step.
     ///
-    /// [`Error::WrongSize`] where fewer than eight bytes are in use.
+    /// [`Error::WrongSize`] where fewer than eight bytes are in use; what the read expression names is used up then too.
     pub fn counter(&mut self, object: ObjectNumber) -> Result<Counter, Error> {
         let before = *self.session;
         let mut room = [0; HEADER + COUNTER_SIZE];
@@ -216,7 +219,8 @@ impl<'a> Element<'a> {
         Ok(Counter::from_bytes(bytes))
     }
 
-    /// Writes value and threshold of a counter, all eight bytes, as [`write`](Element::write) does; a counter refuses fewer.
+    /// Writes value and threshold of a counter, all eight bytes, as [`write`](Element::write) does; a counter refuses fewer. Where its change
+    /// expression names the counter itself, it steps once after the write.
     pub fn set_counter(&mut self, object: ObjectNumber, counter: Counter) -> Result<(), Error> {
         let mut scratch = [0; LEAD + COUNTER_SIZE];
         self.write(object, Offset(0), &counter.to_bytes(), &mut scratch)

@@ -24,7 +24,7 @@ pub enum Refusal {
     InvalidData = 0x05,
     /// The store is malformed, or LcsG or LcsA is no state.
     InternalError = 0x06,
-    /// The access condition does not hold.
+    /// The access condition does not hold: a life cycle state, or a counter that is used up.
     AccessDenied = 0x07,
     /// An offset past the bytes in use (get); past the maximum, or not all of a counter (write); at the threshold, or not at offset 0 (count).
     BoundaryExceeded = 0x08,
@@ -92,8 +92,9 @@ impl core::error::Error for Refusal {}
 pub enum Error {
     /// The room is under [`LEAST_ROOM`](crate::LEAST_ROOM) bytes; nothing is changed.
     NoRoom,
-    /// A buffer has not the size that the call needs, what is to be written fits no command, or an object has too few bytes in use for a counter;
-    /// nothing is changed.
+    /// A buffer has not the size that the call needs, or what is to be written fits no command; nothing is changed. Or
+    /// [`Element::counter`](crate::Element::counter) was given fewer bytes than a counter has: then its read is done, and has used up what the read
+    /// expression names; all else is as before.
     WrongSize,
     /// The element refused the command, with this number of its own; of store and session only the last error is changed.
     Refused(Refusal),

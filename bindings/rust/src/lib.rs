@@ -1,7 +1,8 @@
 //! A secure element's object store for Rust hosts: a safe interface to the proved library `libfirmware.a`.
 //!
 //! The host keeps a store (the objects) and a [`Session`] (four bytes), and lends both to an [`Element`]. A command answers with its data or
-//! with an [`Error`]; a refused command changes nothing but the last error.
+//! with an [`Error`]; a refused command changes nothing but the last error. Every command that is done may change the store, a read too: where the
+//! store is kept over a reset, keep it before the answer goes out.
 //!
 //! ```
 //! use element::{Element, Length, ObjectNumber, Offset, Session, FACTORY_STORE_SIZE, HEADER, LEAD};
@@ -22,7 +23,8 @@
 //! ```
 //!
 //! A store may hold counters: [`Element::count`] moves one towards its threshold and not past it, [`Element::counter`] and
-//! [`Element::set_counter`] read and set its [`Counter`]. The factory's store has none; [`kind`] says how a record tells that it is one.
+//! [`Element::set_counter`] read and set its [`Counter`]. The factory's store has none; [`kind`] says how a record tells that it is one. An access
+//! expression may ask for a counter, and each command that it grants then uses that up by one: [`expression::counter`].
 //!
 //! The crate needs `core` only and takes no memory of its own: all buffers are lent, and no call has a large one on the stack. No input panics.
 //! A command may also be given as bytes: [`Element::send`], [`Element::carry_out`] and, for a list, [`Element::run`].

@@ -1,5 +1,5 @@
 //! The constants are those of include/element.h.
-use element::{command, kind, Length, ObjectNumber, Refusal};
+use element::{command, expression, kind, Length, ObjectNumber, Refusal};
 
 fn text() -> String {
     let path = concat!(env!("CARGO_MANIFEST_DIR"), "/../../include/element.h");
@@ -62,6 +62,17 @@ fn codes() -> Vec<(&'static str, usize)> {
         ("METADATA", command::METADATA),
         ("COUNT", command::COUNT),
         ("ERASE_AND_WRITE", command::ERASE_AND_WRITE),
+        ("ALWAYS", expression::ALWAYS),
+        ("NEVER", expression::NEVER),
+        ("CONDITION_LCSG", expression::LCSG),
+        ("CONDITION_LCSA", expression::LCSA),
+        ("CONDITION_LCSO", expression::LCSO),
+        ("CONDITION_COUNTER", expression::COUNTER),
+        ("EQUAL", expression::EQUAL),
+        ("GREATER", expression::GREATER),
+        ("LESS", expression::LESS),
+        ("AND", expression::AND),
+        ("OR", expression::OR),
     ]
     .map(|(name, code)| (name, code.into()))
     .to_vec()
@@ -112,13 +123,16 @@ fn the_version_begins_with_that_of_the_header() {
 }
 
 #[test]
-fn metadata_tags_and_expression_bytes_are_those_of_document_01() {
+fn metadata_tags_and_expression_bytes_are_those_of_the_rules() {
     use element::{expression as e, tag};
     let tags = [tag::METADATA, tag::LCSO, tag::MAXIMUM, tag::USED];
     assert_eq!(tags, [0x20, 0xC0, 0xC4, 0xC5]);
     assert_eq!([tag::CHANGE, tag::READ, tag::EXECUTE], [0xD0, 0xD1, 0xD3]);
     assert_eq!([e::ALWAYS, e::NEVER], [0x00, 0xFF]);
-    assert_eq!([e::LCSG, e::LCSA, e::LCSO], [0x70, 0xE0, 0xE1]);
+    assert_eq!(
+        [e::COUNTER, e::LCSG, e::LCSA, e::LCSO],
+        [0x40, 0x70, 0xE0, 0xE1]
+    );
     assert_eq!([e::EQUAL, e::GREATER, e::LESS], [0xFA, 0xFB, 0xFC]);
     assert_eq!([e::AND, e::OR, e::LARGEST as u8], [0xFD, 0xFE, 27]);
 }

@@ -1,1 +1,3 @@
-pub mod Holding
+pub mod Listing
+pub mod Uses
+pub mod Granting

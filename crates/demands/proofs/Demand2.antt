@@ -1,5 +1,6 @@
 -- Demand 2 of one command: a write to a stored object makes its change exactly when the command is well formed, the stored change
 -- condition holds and the content is allowed and fits; a data read shows exactly the stored bytes, only when the read condition holds.
+-- Beside that, the counters that the condition uses up step, and nothing else.
 use Prim.Native.Nat.{ℕ, _≤_, _<_}
 use mathlib.Core.Bool.{Bool, true, false, not, _&&_, false≢true}
 use mathlib.Core.List.{List, []}
@@ -13,29 +14,35 @@ use lib.Seq.{ext-getD}
 use Rattle.rules.specs.declared.Session.{Session}
 use Rattle.rules.specs.declared.Refusal.{Refusal}
 use Rattle.rules.specs.declared.Refusal.the-variants.{InvalidParam, InvalidData, BoundaryExceeded}
-use Rattle.rules.specs.declared.Kind.the-variants.{LifeCycle}
+use Rattle.rules.specs.declared.Kind.the-variants.{LifeCycle, Counter}
+use Rattle.rules.specs.declared.Direction.the-variants.{Up}
 use Rattle.rules.specs.declared.Action.{Action}
 use Rattle.rules.specs.declared.Action.the-variants.{GetData, GetMetadata, Write, EraseAndWrite, SetMetadata, Count}
 use Rattle.rules.specs.declared.Row.the-variants.{OnObject}
 use Rattle.rules.specs.declared.Verdict.{Verdict}
 use Rattle.rules.specs.declared.Verdict.the-variants.{Accepted}
-use Rattle.rules.specs.Basic.{if_then_else_}
+use Rattle.rules.specs.Basic.{if_then_else_, among}
 use Rattle.rules.specs.Command.{row, object-number, offset, sent-data}
 use Rattle.rules.specs.Response.{done-response, put-in-front}
-use Rattle.rules.specs.Object.{Object, used, is, of-session, is-counter, direction}
+use Rattle.rules.specs.Expression.{Expression}
+use Rattle.rules.specs.Object.{Object, used, is, of-session, is-counter, direction, with-content}
 use Rattle.rules.specs.Counter.{exhausted}
-use Rattle.rules.specs.Layout.{objects-allowed, pack, find, replaced}
+use Rattle.rules.specs.Layout.{objects-allowed, unpack, pack, find, replaced}
+use Rattle.rules.specs.Metadata.{with-fields}
 use Rattle.rules.specs.Chain.{_refused_or_}
-use Rattle.rules.specs.Access.{Seen, seen, named, holds, asked, granted}
+use Rattle.rules.specs.Access.{Seen, seen, named, Grant, grant, all-used-up, asked, access}
 use Rattle.rules.specs.Operation.{shown, value-allowed, operation}
-use Rattle.rules.specs.Refusals.{unsound, unusable, early, Ruling, ruling-on, ruling, late, verdict}
-use Rattle.rules.specs.Step.{After, replacing, performed, answered, judged, flushed, step}
-use Rattle.demands.specs.Demand.{is-done, Ready, well-formed, writes, content-allowed, changed, MayWrite, WritesExactly, MayRead, Shows, bytes-shown, ReadsExactly}
-use Rattle.laws.proofs.Tests.{and-left, and-right, or-parts}
+use Rattle.rules.specs.Refusals.{unsound, unusable, ruling-on, ruling, verdict}
+use Rattle.rules.specs.Step.{After, replacing, objects-after, performed, answered, judged, flushed, step}
+use Rattle.demands.specs.Demand.{is-done, Ready, well-formed, writes, content-allowed, changed, uses, UsedUp, MayWrite, after-write, WritesExactly}
+use Rattle.demands.specs.Demand.{MayRead, Shows, bytes-shown, after-read, ReadsExactly}
+use Rattle.laws.proofs.Tests.{and-left, and-right, or-parts, by-test}
 use Rattle.laws.proofs.Inverse.{unpack-pack, pack-unpack}
 use Rattle.laws.proofs.Verdicts.{passed, EarlyPassed, early-passed, early-accepts, LatePassed, late-passed, late-accepts, NinePassed, nine-passed, verdict-passed, verdict-accepts}
 use Rattle.laws.proofs.Rows.{on-object}
-use Rattle.laws.proofs.Named.{named-in-store, FoundThere, found-there, flush-keeps, flush-holds}
+use Rattle.laws.proofs.Named.{named-in-store, FoundThere, found-there}
+use Rattle.laws.proofs.Grants.{flush-keeps, flush-grant}
+use Rattle.laws.proofs.UsedUp.{found-replaced, found-used-up, found-not-used, none-used-up, grant-counter}
 use Rattle.laws.proofs.Views.{early-alike, session-left}
 use Rattle.laws.proofs.Keeps.{ruling-kept}
 use Rattle.demands.proofs.Demand1.{step-judged, done-judged, not-done-kept}
@@ -46,7 +53,7 @@ use Rattle.laws.proofs.Puts.{shown-length, shown-there}
 -- a write: which condition it asks, what content it takes and how it refuses other content, what it leaves
 record Writing (a : Action) (c : List ℕ) (o : Object) (see : Seen) : Type 0 where
   refusal : Refusal
-  asks : granted a o see ≡ holds see (o .lcso) (o .change)
+  asks : access a o see ≡ grant see (o .lcso) (o .change)
   judges : operation a c o see .verdict ≡ (not (content-allowed a c o) refused refusal or Accepted)
   silent : operation a c o see .answer ≡ []
   puts : operation a c o see .stores ≡ some (changed a c o)
@@ -68,7 +75,7 @@ module _ (c : List ℕ) (o : Object) (see : Seen) (kind : of-session (o .kind) �
   any-value state = rw (or-parts (is LifeCycle (o .kind)) _ kind .0)
 
   action-writes : (a : Action) → writes a ≡ true → Writing a c o see
-  unfolding operation content-allowed changed writes granted asked _refused_or_
+  unfolding operation content-allowed changed writes access asked _refused_or_
   action-writes GetData w = absurd (false≢true w)
   action-writes GetMetadata w = absurd (false≢true w)
   action-writes Write w =
@@ -80,6 +87,43 @@ module _ (c : List ℕ) (o : Object) (see : Seen) (kind : of-session (o .kind) �
       let judged = count-refusals (is-counter (o .kind)) (eqb (offset c) 0) (exhausted (direction (o .kind)) (o .content)) in
       record { refusal = _; asks = refl; judges = judged; silent = refl; puts = refl }
 
+-- a write keeps number and kind
+changed-keeps : (a : Action) (c : List ℕ) (o : Object) → (changed a c o .number ≡ o .number) × (changed a c o .kind ≡ o .kind)
+unfolding changed with-content with-fields
+changed-keeps GetData c o = (refl, refl)
+changed-keeps GetMetadata c o = (refl, refl)
+changed-keeps Write c o = (refl, refl)
+changed-keeps EraseAndWrite c o = (refl, refl)
+changed-keeps SetMetadata c o = (refl, refl)
+changed-keeps Count c o = (refl, refl)
+
+-- counters used up ---------------------------------------------------------------------------------------------------------
+
+-- up counters that are there
+counters-used-up : (ns : List ℕ) (os : List Object) →
+    ((n : ℕ) → among ns n ≡ true → (o : Object) × (find n os ≡ some o) × (is (Counter Up) (o .kind) ≡ true)) → UsedUp ns os (all-used-up ns os)
+counters-used-up ns os there =
+    record {
+      counted = λ n h. let (o, finds, up) = there n h in (o, finds, up, found-used-up ns n os o finds up h);
+      others-kept = λ n h. found-not-used ns n os h;
+    }
+
+-- those of a grant, among the objects that it saw; and after one of these was replaced by another of its number and kind
+module _ (os : List Object) (s : Session) (lcso : ℕ) (e : Expression) where
+  pub grant-used-up : UsedUp (uses (seen os s) lcso e) os (all-used-up (uses (seen os s) lcso e) os)
+  unfolding seen
+  grant-used-up = counters-used-up _ os (grant-counter (seen os s) lcso e)
+
+  grant-used-up-after : (o new : Object) → find (new .number) os ≡ some o → new .kind ≡ o .kind →
+      UsedUp (uses (seen os s) lcso e) (replaced new os) (all-used-up (uses (seen os s) lcso e) (replaced new os))
+  unfolding seen
+  grant-used-up-after o new there kind =
+      counters-used-up _ (replaced new os)
+      (λ n h.
+      let (p, finds, up) = grant-counter (seen os s) lcso e n h in
+      let (q, found, same) = found-replaced o new os there kind n p finds in
+      (q, found, ap (is (Counter Up)) same ∙ up))
+
 -- the bytes that a data read shows -----------------------------------------------------------------------------------------
 
 module _ (c content : List ℕ) where
@@ -90,6 +134,11 @@ module _ (c content : List ℕ) where
   shows-alone out w =
       let many : length out ≡ length (shown c content) = omega (arith, w .how-many, shown-length c content) in
       ext-getD 0 out (shown c content) many (λ i h. w .which i h ∙ sym (shown-there c content i (subst (λ n. i < n) many h)))
+
+-- and the objects after it
+objects-read : (c : List ℕ) (o : Object) (see : Seen) (os : List Object) → objects-after (ruling-on GetData c (some o) see) os ≡ after-read see o os
+unfolding objects-after ruling-on replacing operation access asked
+objects-read c o see os = refl
 
 -- one command on a ready element -------------------------------------------------------------------------------------------
 
@@ -105,6 +154,9 @@ module _ (c room store : List ℕ) (s : Session) (os : List Object) where
 
   pub done-accepted : Ready room store s os → is-done (step c room store s) ≡ true → verdict-now ≡ Accepted
   done-accepted ready h = rw (ready .store-sound) at (done-judged c room store s h .1)
+
+  allowed-objects : Ready room store s os → objects-allowed os ≡ true
+  allowed-objects ready = pack-unpack store os (ready .store-sound) .1
 
   -- an accepted action has its object
   pub object-named : (a : Action) → row c ≡ OnObject a → verdict-now ≡ Accepted → NinePassed a c (named (object-number c) see) see (length room)
@@ -133,17 +185,22 @@ module _ (c room store : List ℕ) (s : Session) (os : List Object) where
         let p = early-passed true c now early in
         (rw (p .step-3, p .step-7), late-passed a c o see (length room) (rw ruling-is at late))
 
-    performed-by : verdict-now ≡ Accepted → step c room store s ≡ performed (operation a c o see) room os
-    unfolding judged answered ruling-on
+    performed-by : verdict-now ≡ Accepted → step c room store s ≡ performed (ruling-on a c (some o) see) room os
+    unfolding judged answered
     performed-by e = step-judged c room store s (ready .room-to-answer) ∙ rw (ready .store-sound, e, ruling-is)
+
+    -- the store that it leaves is sound
+    objects-left : verdict-now ≡ Accepted → unpack (step c room store s .store) ≡ some (objects-after (ruling-on a c (some o) see) os)
+    unfolding performed
+    objects-left e =
+        let late = verdict-passed true c (length room) see e .1 in
+        let k = rw ruling-is at (ruling-kept (row c) c os now (length room) (allowed-objects ready) late) in
+        rw (performed-by e) (unpack-pack (objects-after (ruling-on a c (some o) see) os) (k .allowed))
 
   -- a stored object is the one that is named
   module _ (o : Object) (ready : Ready room store s os) (finds : find (object-number c) os ≡ some o) where
-    allowed-objects : objects-allowed os ≡ true
-    allowed-objects = pack-unpack store os (ready .store-sound) .1
-
     there : FoundThere (object-number c) os o
-    there = found-there (object-number c) os o allowed-objects finds
+    there = found-there (object-number c) os o (allowed-objects ready) finds
 
     stored-named : named (object-number c) see ≡ some o
     stored-named = named-in-store (object-number c) see (there .outside-session) ∙ (unfold seen in finds)
@@ -155,32 +212,41 @@ module _ (c room store : List ℕ) (s : Session) (os : List Object) where
     asks : Writing a c o see
     asks = action-writes c o see (there o ready finds .storable .not-of-session) a w
 
+    -- the flush changes nothing in what is granted
+    grant-is : access a o see ≡ grant (seen os s) (o .lcso) (o .change)
+    grant-is = asks .asks ∙ flush-grant c s os (o .lcso) (o .change)
+
     may-accepted : MayWrite a c (seen os s) o → verdict-now ≡ Accepted
     unfolding _refused_or_
     may-accepted m =
+        let granted = ap (λ (g : Grant). g .granted) grant-is ∙ m .change-condition-holds in
         accepted-by o ready a acts (stored-named o ready finds) (m .command-well-formed)
-        (search (asks .asks, asks .judges, asks .silent, flush-holds c s os (o .lcso) (o .change), m .content-allowed-and-fits, m, ready, arith))
+        (search (granted, asks .judges, asks .silent, m .content-allowed-and-fits, ready, arith))
+
+    objects-written : objects-after (ruling-on a c (some o) see) os ≡ after-write a c (seen os s) o os
+    unfolding objects-after ruling-on replacing
+    objects-written = λ i. all-used-up (grant-is i .counters) (replacing (asks .puts i) os)
 
     written : verdict-now ≡ Accepted →
-        step c room store s ≡ record { outcome = 0; room = put-in-front (done-response []) room; store = pack (replaced (changed a c o) os); session = now }
-    unfolding performed replacing seen
+        step c room store s ≡
+        record { outcome = 0; room = put-in-front (done-response []) room; store = pack (after-write a c (seen os s) o os); session = now }
+    unfolding performed ruling-on seen
     written e =
         performed-by o ready a acts (stored-named o ready finds) e ∙
-        rw (asks .silent, asks .puts, session-left a c o see (there o ready finds .facts .outside-session))
+        rw (objects-written, asks .silent, session-left a c o see (there o ready finds .facts .outside-session))
 
     pub write-exactly-when : WritesExactly a c room store s os o (step c room store s)
-    unfolding ruling-on replacing
     write-exactly-when =
         record {
           when = λ m. written (may-accepted m);
-          objects-after = λ m.
-              let stores = ap (λ (r : Ruling). r .does .stores) (ruling-is o ready a acts (stored-named o ready finds)) ∙ asks .puts in
-              let late = verdict-passed true c (length room) see (may-accepted m) .1 in
-              let k = rw stores at (ruling-kept (row c) c os now (length room) (allowed-objects o ready finds) late) in
-              rw (written (may-accepted m)) (unpack-pack (replaced (changed a c o) os) (k .allowed));
+          objects-after = λ m. objects-left o ready a acts (stored-named o ready finds) (may-accepted m) ∙ ap some objects-written;
+          uses-up = λ m.
+              let (number, kind) = changed-keeps a c o in
+              let here = ap (λ n. find n os) (number ∙ there o ready finds .stands .number) ∙ finds in
+              grant-used-up-after os s (o .lcso) (o .change) o (changed a c o) here kind;
           only-when = λ h.
               let (formed, l) = accepted-passed o ready a acts (stored-named o ready finds) (done-accepted ready h) in
-              let holding = sym (flush-holds c s os (o .lcso) (o .change)) ∙ sym (asks .asks) ∙ l .granted in
+              let holding = sym (ap (λ (g : Grant). g .granted) grant-is) ∙ l .granted in
               let fits = not-false _ (passed _ _ _ (sym (asks .judges) ∙ l .own) .0) in
               record { command-well-formed = formed; change-condition-holds = holding; content-allowed-and-fits = fits };
           else-kept = not-done-kept c room store s;
@@ -191,42 +257,67 @@ module _ (c room store : List ℕ) (s : Session) (os : List Object) where
   -- of the object that is named, of the session or of the store
   module _ (o : Object) (ready : Ready room store s os) (acts : row c ≡ OnObject GetData) (names-it : named (object-number c) see ≡ some o) where
     pub read-accepted : MayRead c (length room) see o → verdict-now ≡ Accepted
-    unfolding granted asked operation _refused_or_
+    unfolding access asked operation _refused_or_
     read-accepted m =
         let within = le-leb (offset c) (used o) (m .within-used) in
         accepted-by o ready GetData acts names-it (m .command-well-formed) (search (m, within))
 
     pub accepted-read : verdict-now ≡ Accepted → MayRead c (length room) see o
-    unfolding granted asked operation
+    unfolding access asked operation
     accepted-read e =
         let (formed, l) = accepted-passed o ready GetData acts names-it e in
         let within = leb-true (offset c) (used o) (not-false _ (passed _ _ _ (l .own) .0)) in
         record { command-well-formed = formed; read-condition-holds = l .granted; within-used = within; answer-fits = l .fits }
 
-    -- where nothing is stored, the packing is the store
-    pub read-step : verdict-now ≡ Accepted → step c room store s ≡ bytes-shown (shown c (o .content)) room store (operation GetData c o see .session)
-    unfolding performed replacing operation
-    read-step e = performed-by o ready GetData acts names-it e ∙ rw (pack-unpack store os (ready .store-sound) .0)
+    pub read-step : verdict-now ≡ Accepted →
+        step c room store s ≡ bytes-shown (shown c (o .content)) room (pack (after-read see o os)) (operation GetData c o see .session)
+    unfolding performed ruling-on operation
+    read-step e = performed-by o ready GetData acts names-it e ∙ rw (objects-read c o see os)
 
   -- of a stored object
   module _ (o : Object) (ready : Ready room store s os) (acts : row c ≡ OnObject GetData) (finds : find (object-number c) os ≡ some o) where
-    shown-step : verdict-now ≡ Accepted → step c room store s ≡ bytes-shown (shown c (o .content)) room store now
+    -- the flush changes nothing in what is granted
+    read-grant : grant see (o .lcso) (o .read) ≡ grant (seen os s) (o .lcso) (o .read)
+    read-grant = flush-grant c s os (o .lcso) (o .read)
+
+    may-read : MayRead c (length room) (seen os s) o → verdict-now ≡ Accepted
+    may-read m =
+        let holding = ap (λ (g : Grant). g .granted) read-grant ∙ m .read-condition-holds in
+        read-accepted o ready acts (stored-named o ready finds) (search (m, holding))
+
+    left : after-read see o os ≡ after-read (seen os s) o os
+    left = ap (λ (g : Grant). all-used-up (g .counters) os) read-grant
+
+    shown-step : verdict-now ≡ Accepted → step c room store s ≡ bytes-shown (shown c (o .content)) room (pack (after-read (seen os s) o os)) now
     unfolding seen
     shown-step e =
         read-step o ready acts (stored-named o ready finds) e ∙
-        ap (bytes-shown (shown c (o .content)) room store) (session-left GetData c o see (there o ready finds .facts .outside-session))
+        (λ i. bytes-shown (shown c (o .content)) room (pack (left i)) (session-left GetData c o see (there o ready finds .facts .outside-session) i))
+
+    -- where none is used up, the packing is the store
+    kept : uses (seen os s) (o .lcso) (o .read) ≡ [] → verdict-now ≡ Accepted → step c room store s ≡ bytes-shown (shown c (o .content)) room store now
+    kept unused e =
+        let same = ap (λ ns. pack (all-used-up ns os)) unused ∙ ap pack (none-used-up os) ∙ pack-unpack store os (ready .store-sound) .0 in
+        shown-step e ∙ ap (λ b. bytes-shown (shown c (o .content)) room b now) same
+
+    pub read-keeps : uses (seen os s) (o .lcso) (o .read) ≡ [] → MayRead c (length room) (seen os s) o →
+        step c room store s ≡ bytes-shown (shown c (o .content)) room store now
+    read-keeps unused m = kept unused (may-read m)
 
     pub read-exactly-when : ReadsExactly c room store s os o (step c room store s)
     read-exactly-when =
-        let flush = flush-holds c s os (o .lcso) (o .read) in
-        let accepted = read-accepted o ready acts (stored-named o ready finds) in
-        let passed = accepted-read o ready acts (stored-named o ready finds) in
         record {
-          when = λ m. let holding = flush ∙ m .read-condition-holds in shown-step (accepted (search (m, holding)));
+          when = λ m. shown-step (may-read m);
+          objects-after = λ m.
+              objects-left o ready GetData acts (stored-named o ready finds) (may-read m) ∙ ap some (objects-read c o see os ∙ left);
+          uses-up = λ m. grant-used-up os s (o .lcso) (o .read);
           shows = λ m. shown-shows c (o .content) (m .within-used);
           nothing-else = shows-alone c (o .content);
-          only-when = λ h. let m = passed (done-accepted ready h) in let holding = sym flush ∙ m .read-condition-holds in search (m, holding);
-          store-kept =
-              elim (is-done (step c room store s)) as (λ t. is-done (step c room store s) ≡ t → step c room store s .store ≡ store)
-              [ true ↦ λ h. ap (λ (a : After). a .store) (shown-step (done-accepted ready h)) | false ↦ not-done-kept c room store s ] refl;
+          only-when = λ h.
+              let m = accepted-read o ready acts (stored-named o ready finds) (done-accepted ready h) in
+              let holding = sym (ap (λ (g : Grant). g .granted) read-grant) ∙ m .read-condition-holds in
+              search (m, holding);
+          else-kept = not-done-kept c room store s;
+          store-kept = λ unused.
+              by-test (is-done (step c room store s)) (λ h. ap (λ (a : After). a .store) (kept unused (done-accepted ready h))) (not-done-kept c room store s);
         }

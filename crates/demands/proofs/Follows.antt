@@ -1,7 +1,7 @@
 -- On a command as demand 3 takes it, the rules do what the machine of cells does.
 use Prim.Native.Nat.{ℕ, max}
 use mathlib.Core.Bool.{true, false}
-use mathlib.Core.List.{List, []}
+use mathlib.Core.List.{List, [], _∷_}
 use mathlib.Core.Option.{Option, none, some}
 use mathlib.Core.Path.{_≡_, refl, sym, ap, _∙_}
 use native.Mathlib.Omega.{arith}
@@ -20,17 +20,17 @@ use Rattle.rules.specs.Session.{with-error}
 use Rattle.rules.specs.Chain.{_refused_or_, _and-then_}
 use Rattle.rules.specs.Access.{Seen, seen}
 use Rattle.rules.specs.Refusals as refusals
-use Rattle.rules.specs.Step.{After, raised, declined, replacing, performed, flushed, unanswered, step}
+use Rattle.rules.specs.Step.{After, raised, declined, objects-after, performed, flushed, unanswered, step}
 use Rattle.rules.specs.Run.{Turn, Reply, reply, left}
 use Rattle.demands.specs.Demand.{Plain}
 use Rattle.laws.proofs.Inverse.{pack-unpack}
 use Rattle.laws.proofs.Places.{found-stands}
 use Rattle.laws.proofs.Verdicts.{verdict-passed}
-use Rattle.laws.proofs.Named.{error-aside}
+use Rattle.laws.proofs.Grants.{error-aside}
 use Rattle.laws.proofs.Views.{ruling-left}
 use Rattle.laws.proofs.Keeps.{step-by, malformed-refused}
-use Rattle.demands.proofs.Numbered.{put}
-use Rattle.demands.proofs.Cells.{response, one, ruled, view, ruled-at, small, rules-machine, lawful}
+use Rattle.demands.proofs.Numbered.{put, changes}
+use Rattle.demands.proofs.Cells.{response, object-after, ruled, view, ruled-at, small, rules-machine, lawful}
 use Rattle.demands.proofs.Plain.{aimed, ruling-at, ruled-same, stored-is}
 
 module _ (t : Turn) (plain : Plain t) (b : List ℕ) (s : Session) where
@@ -60,8 +60,9 @@ module _ (t : Turn) (plain : Plain t) (b : List ℕ) (s : Session) where
 
   -- an accepted command stores what the machine stores, and leaves the session
   accepted-follows : (m : Option (List Object)) → unpack b ≡ m → refusals.verdict (is-some m) c (length (t .room)) (see m) ≡ Accepted →
-      let p = refusals.ruling (row c) c (see m) .does in
-      (pack (replacing (p .stores) (or-else m [])) ≡ repacked put pack b (or-else m []) (one (object-number c) (p .stores))) × (p .session ≡ s)
+      let r = refusals.ruling (row c) c (see m) in
+      let stores = changes (object-after r) (object-number c ∷ r .counters) (see m .stored) in
+      (pack (objects-after r (or-else m [])) ≡ repacked put pack b (or-else m []) stores) × (r .does .session ≡ s)
   unfolding seen rules-machine
   accepted-follows none u v = absurd (malformed-refused c (length (t .room)) (see none) v)
   accepted-follows (some os) u v =
@@ -87,8 +88,8 @@ module _ (t : Turn) (plain : Plain t) (b : List ℕ) (s : Session) where
   -- the machine looks at the session without its last error
   machine-rules : (m : Option (List Object)) → rules m ≡ ruling rules-machine t (with-error 0 s) m
   unfolding rules-machine ruling seen find
-  machine-rules none = sym (ruled-same t plain (small t) false (view (with-error 0 s) (λ k. none)) (view s (λ k. none)) (error-aside 0 s) (λ e. refl))
-  machine-rules (some os) = sym (ruled-same t plain (small t) true (seen os (with-error 0 s)) (seen os s) (error-aside 0 s) (λ e. refl))
+  machine-rules none = sym (ruled-same t plain (small t) false (view (with-error 0 s) (λ k. none)) (view s (λ k. none)) (error-aside 0 s) (λ k p. refl))
+  machine-rules (some os) = sym (ruled-same t plain (small t) true (seen os (with-error 0 s)) (seen os s) (error-aside 0 s) (λ k p. refl))
 
   machine-stores : (m : Option (List Object)) → following m .store ≡ store-after rules-machine t (with-error 0 s) b m
   unfolding store-after ruling rules-machine ruled-at repacked ruled refusals.verdict refusals.early refusals.unsound _refused_or_ _and-then_

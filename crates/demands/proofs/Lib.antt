@@ -7,6 +7,7 @@ pub mod Cells
 pub mod Plain
 pub mod Follows
 pub mod Demand3
+pub mod Conditions
 pub mod Resent
 pub mod Metadata
 pub mod SendBack

@@ -23,7 +23,7 @@ use Rattle.rules.specs.Object.{Object, of-session}
 use Rattle.rules.specs.Layout.{unpack}
 use Rattle.rules.specs.Factory.{factory-store, fresh-session}
 use Rattle.rules.specs.Metadata.{field, fields-bytes, object-fields, led-by-20, metadata}
-use Rattle.rules.specs.Access.{Seen, seen, named, asked, granted}
+use Rattle.rules.specs.Access.{Seen, seen, named, asked, access, granted}
 use Rattle.rules.specs.Operation.{operation, setting-session}
 use Rattle.rules.specs.Refusals.{ruling-on, ruling-of, ruling, verdict}
 use Rattle.rules.specs.Step.{After, unanswered, declined, performed, flushed, step}
@@ -36,7 +36,7 @@ use Rattle.laws.proofs.Verdicts.{nine-passed, verdict-passed}
 use Rattle.laws.proofs.Rows.{every-line, in-full}
 use Rattle.laws.proofs.Named.{in-store, found-there}
 use Rattle.laws.proofs.Fitting.{not-never}
-use Rattle.laws.proofs.Keeps.{does, step-by, malformed-refused, step-room-length}
+use Rattle.laws.proofs.Keeps.{ruled, step-by, malformed-refused, step-room-length}
 
 -- what is shown of a room -----------------------------------------------------------------------------------------------------
 
@@ -71,7 +71,7 @@ get-size c =
 -- what is no get of data answers no data, or the metadata of a stored object
 operation-short : (a : Action) (c : List ℕ) (o : Object) (see : Seen) → (a ≡ GetData → ⊥) → granted a o see ≡ true →
     (of-session (o .kind) ≡ false → Allowed o) → length (operation a c o see .answer) ≤ 100
-unfolding operation granted asked
+unfolding operation access asked
 operation-short GetData c o see other g known = absurd (other refl)
 operation-short GetMetadata c o see other g known = metadata-length o (known (not-never (of-session (o .kind)) see (o .lcso) always g))
 operation-short Write c o see other g known = omega arith
@@ -107,7 +107,7 @@ response-short c room store s l =
     step-by (λ a. length (response-in (a .room)) ≤ 104) c room store s
     (λ m. omega (arith, response-length room .0, m)) (λ m r e. omega (arith, response-length (put-in-front refused-response room) .1))
     (λ m e.
-    let out = does c (unpack store) (flushed c s) .answer in
+    let out = ruled c (unpack store) (flushed c s) .does .answer in
     let short = answer-short c store (length room) _ (flushed c s) l refl e in
     omega (arith, response-length (put-in-front (done-response out) room) .1, two-bytes (length out), short))
 

@@ -23,13 +23,13 @@ use Rattle.rules.specs.Object.{Object, of-session, is-counter, is, kind-number}
 use Rattle.rules.specs.Layout.{unpack, find}
 use Rattle.rules.specs.Session.{session-change, session-object, session-objects, with-error}
 use Rattle.rules.specs.Chain.{_refused_or_, _and-then_}
-use Rattle.rules.specs.Access.{Seen, seen, named, holds, asked, granted}
+use Rattle.rules.specs.Access.{Seen, seen, named, grant, asked, access}
 use Rattle.rules.specs.Operation.{setting-session, operation}
 use Rattle.rules.specs.Refusals.{ruling-on, ruling-of, ruling, late, verdict}
 use Rattle.rules.specs.Step.{After, raised, declined, answered, judged, flushed, step}
 use Rattle.laws.proofs.Tests.{if-by}
 use Rattle.laws.proofs.Puts.{shown-length}
-use Rattle.laws.proofs.Named.{error-aside}
+use Rattle.laws.proofs.Grants.{error-aside}
 use Rattle.laws.proofs.Views.{early-alike, ruling-alike, late-alike}
 use Rattle.demands.proofs.Demand1.{step-judged}
 use Rattle.laws.proofs.Keeps.{judgment}
@@ -40,7 +40,7 @@ module _ (c : List ℕ) (see : Seen) (room n m : ℕ) where
   byte-late a b = late (ruling-on a c (some (session-object 0xF1C2 Status b)) see) room
 
   error-same : (a : Action) → byte-late a n ≡ byte-late a m
-  unfolding late ruling-on granted asked operation session-object session-change of-session is-counter is kind-number holds _refused_or_ _and-then_
+  unfolding late ruling-on access asked operation session-object session-change of-session is-counter is kind-number grant _refused_or_ _and-then_
   error-same GetData = simp shown-length
   error-same GetMetadata = refl
   error-same Write = refl
@@ -74,7 +74,7 @@ module _ (c : List ℕ) (room : ℕ) (n : ℕ) (s : Session) (os : List Object) 
 
   row-same : (r : Row) → late (ruling r c after) room ≡ late (ruling r c before) room
   unfolding ruling ruling-of setting-session late seen
-  row-same (OnObject a) = late-alike _ _ room (ruling-alike a c (named (object-number c) after) after before (error-aside n s)) ∙ named-same a
+  row-same (OnObject a) = late-alike _ _ room (ruling-alike a c (named (object-number c) after) after before (error-aside n s) (λ o e m h. refl)) ∙ named-same a
   row-same OpenApplication = refl
   row-same CloseApplication = refl
   row-same Unknown = refl

@@ -1,5 +1,5 @@
 -- The send-back case: where an object's change expression holds, its metadata read back, without C4 and C5, may be sent in and changes
--- nothing.
+-- nothing but the counters that the expression uses up.
 use Prim.Native.Nat.{ℕ, _+_, _*_, _-_, _≤_}
 use mathlib.Core.Bool.{true}
 use mathlib.Core.List.{List, []}
@@ -15,19 +15,20 @@ use Rattle.rules.specs.Command.{asks-flush, cmd, param, in-length, in-data, Lin
 use Rattle.rules.specs.Response.{done-response, put-in-front}
 use Rattle.rules.specs.Expression.{slot-size}
 use Rattle.rules.specs.Object.{Object}
-use Rattle.rules.specs.Layout.{objects-allowed, find, replaced}
+use Rattle.rules.specs.Layout.{unpack, pack, find, replaced}
 use Rattle.rules.specs.Metadata.{field, fields-bytes, led-by-20, with-fields}
-use Rattle.rules.specs.Access.{seen, holds}
+use Rattle.rules.specs.Access.{seen, expression-counters, holds, all-used-up}
 use Rattle.rules.specs.Refusals.{ill-sized, wrong-length}
 use Rattle.rules.specs.Step.{flushed, step}
-use Rattle.demands.specs.Demand.{Ready, MayWrite, well-formed, writes, content-allowed, changed, sent-back}
+use Rattle.demands.specs.Demand.{Ready, MayWrite, WritesExactly, well-formed, writes, content-allowed, changed, uses, UsedUp, after-write, sent-back}
 use Rattle.laws.proofs.Expressions.{expression-length}
-use Rattle.laws.proofs.Facts.{Allowed, all-allowed-facts}
+use Rattle.laws.proofs.Facts.{Allowed}
 use Rattle.laws.proofs.Inverse.{two-bytes, pack-unpack}
-use Rattle.laws.proofs.Places.{found-stands, replaced-at}
-use Rattle.laws.proofs.Named.{found-there}
+use Rattle.laws.proofs.Places.{replaced-itself}
+use Rattle.laws.proofs.Named.{FoundThere, found-there}
+use Rattle.laws.proofs.UsedUp.{none-used-up, grant-uses-none}
 use Rattle.demands.proofs.Metadata.{own-fields, own-sent, own-allowed, own-changes-nothing}
-use Rattle.demands.proofs.Demand2.{write-exactly-when}
+use Rattle.demands.proofs.Demand2.{grant-used-up, write-exactly-when}
 
 -- 20, L and the fields
 own-content : Object → List ℕ
@@ -62,25 +63,55 @@ module _ (o : Object) (f : Allowed o) where
       let same = eq-eqb (2 + length (own-content o)) (2 + length (own-content o)) refl in
       simp (line-is, length-is, behind, same, le-ltb, le-leb)
 
--- an object in its own place
-replaced-itself : (n : ℕ) (os : List Object) (o : Object) → objects-allowed os ≡ true → find n os ≡ some o → replaced o os ≡ os
-replaced-itself n os o h e =
-    let st = found-stands n os o e in
-    rw (st .split) (replaced-at (st .before) o (st .after) o refl (rw (st .split) at (all-allowed-facts os h .rises)))
+module _ (room store : List ℕ) (s : Session) (os : List Object) (n : ℕ) (o : Object) (ready : Ready room store s os) (finds : find n os ≡ some o)
+    (holding : holds (seen os s) (o .lcso) (o .change) ≡ true) where
+  there : FoundThere n os o
+  there = found-there n os o (pack-unpack store os (ready .store-sound) .1) finds
 
-pub send-back : (room store : List ℕ) (s : Session) (os : List Object) (n : ℕ) (o : Object) → Ready room store s os → find n os ≡ some o →
-    holds (seen os s) (o .lcso) (o .change) ≡ true →
-    step (sent-back o) room store s ≡ record { outcome = 0; room = put-in-front (done-response []) room; store = store; session = s }
-unfolding own-content writes content-allowed changed sent-metadata sent-back own-fields flushed asks-flush row table-line
-send-back room store s os n o ready finds holding =
-    let (packed, allowed) = pack-unpack store os (ready .store-sound) in
-    let there = found-there n os o allowed finds in
-    let ok = there .object-ok in
-    let f = there .facts in
-    let c = sent-back o in
-    let number : object-number c ≡ n = unfold object-number in omega (arith, two-bytes (o .number), there .stands .number) in
-    let new : changed SetMetadata c o ≡ o = ap (λ fs. with-fields fs o) (own-sent o) ∙ own-changes-nothing o ok in
-    let may : MayWrite SetMetadata c (seen os s) o =
-    record { command-well-formed = formed o f; change-condition-holds = holding; content-allowed-and-fits = own-allowed o ok } in
-    write-exactly-when c room store s os o ready SetMetadata (ap (λ (l : Line). l .row) (line-is o f)) refl (rw number finds) .when may ∙
-    rw (new, replaced-itself n os o allowed finds, packed)
+  may : MayWrite SetMetadata (sent-back o) (seen os s) o
+  unfolding own-content content-allowed sent-metadata sent-back own-fields
+  may =
+      record {
+        command-well-formed = formed o (there .facts);
+        change-condition-holds = holding;
+        content-allowed-and-fits = own-allowed o (there .object-ok);
+      }
+
+  writes-back : WritesExactly SetMetadata (sent-back o) room store s os o (step (sent-back o) room store s)
+  unfolding writes sent-back own-fields row table-line
+  writes-back =
+      let number : object-number (sent-back o) ≡ n = unfold object-number in omega (arith, two-bytes (o .number), there .stands .number) in
+      write-exactly-when (sent-back o) room store s os o ready SetMetadata (ap (λ (l : Line). l .row) (line-is o (there .facts))) refl (rw number finds)
+
+  -- the object is put in its own place
+  only-used-up : after-write SetMetadata (sent-back o) (seen os s) o os ≡ all-used-up (uses (seen os s) (o .lcso) (o .change)) os
+  unfolding own-content changed sent-metadata sent-back own-fields
+  only-used-up =
+      let new : changed SetMetadata (sent-back o) o ≡ o = ap (λ fs. with-fields fs o) (own-sent o) ∙ own-changes-nothing o (there .object-ok) in
+      let itself = replaced-itself n os o (pack-unpack store os (ready .store-sound) .1) finds in
+      ap (all-used-up (uses (seen os s) (o .lcso) (o .change))) (ap (λ x. replaced x os) new ∙ itself)
+
+  pub send-back : step (sent-back o) room store s ≡
+      record {
+        outcome = 0;
+        room = put-in-front (done-response []) room;
+        store = pack (all-used-up (uses (seen os s) (o .lcso) (o .change)) os);
+        session = s;
+      }
+  unfolding sent-back own-fields flushed asks-flush
+  send-back = writes-back .when may ∙ rw only-used-up
+
+  -- in the store after it each counter that the expression uses up has gone up by one, once, and all other objects are as they were
+  pub send-back-uses-up : (ps : List Object) × (unpack (step (sent-back o) room store s .store) ≡ some ps) ×
+      UsedUp (uses (seen os s) (o .lcso) (o .change)) os ps
+  send-back-uses-up = (_, writes-back .objects-after may ∙ ap some only-used-up, grant-used-up os s (o .lcso) (o .change))
+
+  -- where the expression uses up no counter, nothing changes
+  pub send-back-keeps : uses (seen os s) (o .lcso) (o .change) ≡ [] →
+      step (sent-back o) room store s ≡ record { outcome = 0; room = put-in-front (done-response []) room; store = store; session = s }
+  send-back-keeps unused = send-back ∙ rw (unused, none-used-up os, pack-unpack store os (ready .store-sound) .0)
+
+  -- in particular where it names none
+  pub send-back-changes-nothing : expression-counters (o .change) ≡ [] →
+      step (sent-back o) room store s ≡ record { outcome = 0; room = put-in-front (done-response []) room; store = store; session = s }
+  send-back-changes-nothing unnamed = send-back-keeps (grant-uses-none (seen os s) (o .lcso) (o .change) unnamed)

@@ -15,21 +15,25 @@ use Rattle.rules.specs.declared.Kind.the-variants.{LifeCycle, Status}
 use Rattle.rules.specs.declared.Action.{Action}
 use Rattle.rules.specs.declared.Action.the-variants.{GetData}
 use Rattle.rules.specs.declared.Row.the-variants.{OnObject}
+use Rattle.rules.specs.declared.Verdict.the-variants.{Accepted}
 use Rattle.rules.specs.Basic.{if_then_else_, among, is-some, or-else}
 use Rattle.rules.specs.Command.{row, object-number}
 use Rattle.rules.specs.Object.{Object, in-session}
-use Rattle.rules.specs.Layout.{unpack, find}
+use Rattle.rules.specs.Layout.{pack, unpack, find}
 use Rattle.rules.specs.Session.{session-object, session-objects}
-use Rattle.rules.specs.Access.{Seen, seen, named, holds}
+use Rattle.rules.specs.Access.{Seen, seen, named, grant}
 use Rattle.rules.specs.Operation.{shown, operation}
-use Rattle.rules.specs.Refusals.{unsound, unusable}
+use Rattle.rules.specs.Refusals.{unsound, unusable, verdict}
 use Rattle.rules.specs.Step.{flushed, step}
 use Rattle.demands.specs.Demand.{is-done, Ready, session-byte, asks-byte, byte-shown, MayReadByte, after-byte, bytes-shown, Shown, of-object, of-session}
 use Rattle.laws.proofs.Tests.{or-left, or-right, some-else}
+use Rattle.laws.proofs.Inverse.{pack-unpack}
 use Rattle.laws.proofs.Puts.{shown-byte}
 use Rattle.laws.proofs.Verdicts.{early-passed, verdict-passed}
 use Rattle.laws.proofs.Rows.{on-object}
-use Rattle.laws.proofs.Named.{named-in-store, flush-keeps}
+use Rattle.laws.proofs.Named.{named-in-store}
+use Rattle.laws.proofs.Grants.{flush-keeps}
+use Rattle.laws.proofs.UsedUp.{none-used-up}
 use Rattle.laws.proofs.Views.{early-alike}
 use Rattle.demands.proofs.Demand1.{done-judged}
 use Rattle.demands.proofs.Demand2.{done-accepted, read-accepted, accepted-read, read-step, read-exactly-when, object-named}
@@ -89,6 +93,18 @@ module _ (c : List ℕ) (byte : ℕ) where
   unfolding operation session-object after-byte
   byte-left k room store see = rw (one-asked, one-shown)
 
+-- it uses up no counter, so the packing is the store
+byte-step : (c room store : List ℕ) (s : Session) (os : List Object) (byte : ℕ) (k : Kind) → Ready room store s os → row c ≡ OnObject GetData →
+    named (object-number c) (seen os (flushed c s)) ≡ some (session-object (object-number c) k byte) →
+    verdict true c (length room) (seen os (flushed c s)) ≡ Accepted → step c room store s ≡ bytes-shown (byte-shown c byte) room store (after-byte c (flushed c s))
+unfolding session-object seen grant
+byte-step c room store s os byte k ready acts n accepted =
+    let see = seen os (flushed c s) in
+    let o = session-object (object-number c) k byte in
+    let kept = ap pack (none-used-up os) ∙ pack-unpack store os (ready .store-sound) .0 in
+    read-step c room store s os o ready acts n accepted ∙
+    ap (λ b. bytes-shown (shown c (byte ∷ [])) room b (operation GetData c o see .session)) kept ∙ byte-left c byte k room store see
+
 -- demand 2: a data read that is done, with nothing assumed of store and session ----------------------------------------------------------
 
 pub read-only-when : (c room store : List ℕ) (s : Session) → row c ≡ OnObject GetData → is-done (step c room store s) ≡ true →
@@ -103,7 +119,7 @@ read-only-when c room store s acts h =
           let o = session-object (object-number c) k byte in
           let m = accepted-read c room store s os o ready acts n accepted in
           let fits = rw (one-shown c byte) at (m .answer-fits) in
-          of-session os byte ready (search (m, b, fits)) (read-step c room store s os o ready acts n accepted ∙ byte-left c byte k room store (seen os (flushed c s)))
+          of-session os byte ready (search (m, b, fits)) (byte-step c room store s os byte k ready acts n accepted)
       -- a stored object is found, since step 9 passed
       | session-not-named out b ↦
           let p = object-named c room store s os GetData acts accepted in
@@ -116,7 +132,7 @@ read-only-when c room store s acts h =
 -- and the byte of an object of the session is shown whenever it may be
 pub byte-read-when : (c room store : List ℕ) (s : Session) (os : List Object) (byte : ℕ) → Ready room store s os → row c ≡ OnObject GetData →
     MayReadByte c (length room) (flushed c s) byte → step c room store s ≡ bytes-shown (byte-shown c byte) room store (after-byte c (flushed c s))
-unfolding session-object seen holds
+unfolding session-object seen grant
 byte-read-when c room store s os byte r acts m =
     elim (which-named (object-number c) (seen os (flushed c s))) [
       | session-named other k b n ↦
@@ -124,7 +140,6 @@ byte-read-when c room store s os byte r acts m =
           let o = session-object (object-number c) k byte in
           let n′ = rw same at n in
           let fits = rw (← one-shown c byte) at (m .answer-fits) in
-          read-step c room store s os o r acts n′ (read-accepted c room store s os o r acts n′ (search (m, fits))) ∙
-          byte-left c byte k room store (seen os (flushed c s))
+          byte-step c room store s os byte k r acts n′ (read-accepted c room store s os o r acts n′ (search (m, fits)))
       | session-not-named out b ↦ let f = m .in-session in let z : _≡_ {A = ℕ} 0 1 = cc in absurd (omega arith)
     ]

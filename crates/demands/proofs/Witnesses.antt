@@ -1,41 +1,49 @@
 -- Each record of assumptions is met, by the factory store, an opened session and commands of the bench sheet, and what the demands conclude of
 -- them. The records are made by `search`: one that asks too much is refused for what it asks.
-use Prim.Native.Nat.{ℕ}
-use mathlib.Core.Bool.{Bool, true, false}
-use mathlib.Core.List.{List, [], _∷_, _++_}
-use mathlib.Core.Logic.{inl, inr}
-use mathlib.Core.Option.{some}
+use Prim.Native.Nat.{ℕ, _/_, _%_}
+use mathlib.Core.Bool.{Bool, true, false, not, false≢true}
+use mathlib.Core.List.{List, [], _∷_, _++_, map}
+use mathlib.Core.Logic.{_⊎_, inl, inr}
+use mathlib.Core.Option.{some, Option·some-injective}
 use mathlib.Core.Path.{_≡_, refl, sym, ap, _∙_}
 use native.Mathlib.Omega.{arith}
+use borrow.Author.Tests.{eqb-true, eq-eqb, not-true}
+use lib.Dec.{eqb}
 use lib.ListN.{length, replicate}
 use Rattle.mixing.specs.Runs.{Mix, both-used-up, first, second, All, Mixed}
 use Rattle.rules.specs.declared.Session.{Session}
 use Rattle.rules.specs.declared.Action.the-variants.{Write, EraseAndWrite, SetMetadata, Count}
-use Rattle.rules.specs.declared.Kind.the-variants.{Counter}
+use Rattle.rules.specs.declared.Kind.the-variants.{Data, Counter}
 use Rattle.rules.specs.declared.Direction.the-variants.{Up}
 use Rattle.rules.specs.Basic.{all, among, same, rising-from, rising, zeros, big-endian-4, big-endian-4-at}
 use Rattle.rules.specs.Hex.{ascii, digits, pairs, hex}
 use Rattle.rules.specs.Command.{asks-flush, cmd, param, in-length, in-data, size-right, table-line, command-table, line-in, line-of, row, object-number, offset, asked-length, sent-data, step-byte, sent-metadata, object-of}
 use Rattle.rules.specs.Response.{done-response, put-in-front}
-use Rattle.rules.specs.Expression.{is-state, may-become, always, expression-allowed-with}
+use Rattle.rules.specs.Expression.{is-state, may-become, Condition, just, _and_, only, Expression, always, never, when, expression-bytes, groups-bytes, group-bytes, condition-bytes}
+use Rattle.rules.specs.Expression.{names-counter, counter-number, condition-allowed, group-allowed, groups-allowed, group-size, conditions, groups, expression-allowed-with}
 use Rattle.rules.specs.Object.{Object, kind-number, is, is-counter, direction, data-allowed, in-session, object-allowed-with, all-allowed-with, with-content}
-use Rattle.rules.specs.Layout.{size-with, objects-allowed-with, pack, find, replaced}
+use Rattle.rules.specs.Layout.{size-with, objects-allowed-with, pack, unpack, find, replaced}
 use Rattle.rules.specs.Counter.{moved, at-or-past, counted, value, threshold, exhausted, after-count}
 use Rattle.rules.specs.Factory.{entry, table, before-operational, made, factory-objects, factory-store, fresh-session}
 use Rattle.rules.specs.Session.{with-opened, with-error}
-use Rattle.rules.specs.Metadata.{field, fields-bytes, led-by-20, read-fields, sent-fields, field-allowed, fields-allowed, metadata-allowed}
-use Rattle.rules.specs.Access.{seen, present, condition-holds, group-holds, groups-hold, holds}
+use Rattle.rules.specs.Metadata.{field, fields-bytes, object-fields, led-by-20, read-fields, sent-fields, field-allowed, fields-allowed, metadata-allowed}
+use Rattle.rules.specs.Access.{seen, present, state-holds, usable, condition-holds, group-holds, condition-counters, group-counters, groups-counters, expression-counters}
+use Rattle.rules.specs.Access.{groups-grant, grant, one-up, used-up, all-used-up}
 use Rattle.rules.specs.Operation.{shown, put-at, write-fits}
 use Rattle.rules.specs.Refusals.{ill-sized, wrong-length}
 use Rattle.rules.specs.Step.{flushed, step}
 use Rattle.rules.specs.Run.{Turn, Kept, reply, left, reads-or-writes}
-use Rattle.demands.specs.Demand.{is-done, Ready, well-formed, writes, content-allowed, changed, MayWrite, WritesExactly, MayRead, session-byte, asks-byte, byte-shown, MayReadByte, after-byte, Shown}
-use Rattle.demands.specs.Demand.{Plain, Names, TwoLists}
+use Rattle.demands.specs.Demand.{is-done, Ready, well-formed, writes, content-allowed, changed, uses, UsedUp, MayWrite, WritesExactly, MayRead, ReadsExactly, session-byte, asks-byte, byte-shown, MayReadByte, after-byte, Shown, without-sizes, sent-back}
+use Rattle.demands.specs.Demand.{Plain, Names, object-counters, NamesCounter, sets-metadata, TwoLists}
+use Rattle.laws.proofs.Tests.{by-test, and-left, and-right}
 use Rattle.laws.proofs.Factory.{factory-sound}
 use Rattle.laws.proofs.Inverse.{unpack-pack}
-use Rattle.demands.proofs.Demand2.{write-exactly-when, read-exactly-when}
+use Rattle.laws.proofs.Grants.{among-right}
+use Rattle.demands.proofs.Demand2.{write-exactly-when, read-exactly-when, read-keeps}
 use Rattle.demands.proofs.Shown.{read-only-when, byte-read-when}
+use Rattle.demands.proofs.SendBack.{send-back}
 use Rattle.demands.proofs.Demand3.{lists-mix}
+use Rattle.demands.proofs.Conditions.{during-before}
 
 -- the application opened on the factory store, with a room of 64 bytes EE
 unfoldable pub opened : Session
@@ -50,8 +58,13 @@ F1D0 = made (entry 0xF1D0 140)
 
 -- `unfolding computed` opens what a record of assumptions speaks of
 computed : List Bool
-unfolding opened room F1D0 all among same rising-from rising ascii digits pairs hex asks-flush cmd param in-length in-data size-right table-line command-table line-in line-of row object-number offset asked-length sent-data step-byte sent-metadata is-state may-become seen present condition-holds group-holds groups-hold holds in-session find entry table before-operational made factory-objects fresh-session with-opened with-error field fields-bytes led-by-20 read-fields sent-fields field-allowed fields-allowed metadata-allowed with-content shown put-at write-fits kind-number is is-counter direction big-endian-4 big-endian-4-at moved at-or-past counted value threshold exhausted after-count ill-sized wrong-length flushed well-formed writes content-allowed changed session-byte asks-byte byte-shown reads-or-writes object-of
+unfolding opened room F1D0 all among same rising-from rising ascii digits pairs hex asks-flush cmd param in-length in-data size-right table-line command-table line-in line-of row object-number offset asked-length sent-data step-byte sent-metadata is-state may-become seen present names-counter counter-number state-holds usable condition-holds group-holds condition-counters group-counters groups-grant grant one-up used-up all-used-up in-session find entry table before-operational made factory-objects fresh-session with-opened with-error field fields-bytes led-by-20 read-fields sent-fields field-allowed fields-allowed metadata-allowed with-content shown put-at write-fits kind-number is is-counter direction big-endian-4 big-endian-4-at moved at-or-past counted value threshold exhausted after-count ill-sized wrong-length flushed well-formed writes content-allowed changed session-byte asks-byte byte-shown reads-or-writes object-of
 computed = []
+
+-- `unfolding allowing` opens what the check of a store asks of its objects
+allowing : List Bool
+unfolding size-with objects-allowed-with object-allowed-with all-allowed-with data-allowed expression-allowed-with condition-allowed group-allowed groups-allowed group-size conditions groups
+allowing = []
 
 pub factory-ready : Ready room factory-store opened factory-objects
 unfolding computed
@@ -87,7 +100,7 @@ unfoldable pub written : List ℕ
 written = step P3 room factory-store opened .store
 
 pub written-ready : Ready room written opened (replaced F1D0-written factory-objects)
-unfolding computed P3 F1D0-written written
+unfolding computed P3 F1D0-written written replaced
 written-ready = search (P3-writes .objects-after may-write, arith)
 
 -- P4: the 17 bytes read back
@@ -101,7 +114,7 @@ may-read = search arith
 pub read-back : step P4 room written opened ≡
     record { outcome = 0; room = put-in-front (done-response (zeros 9 ++ hex "01 02 03 04 05 06 07 08")) room; store = written; session = opened }
 unfolding computed P4 F1D0-written replaced
-read-back = read-exactly-when P4 room written opened (replaced F1D0-written factory-objects) F1D0-written written-ready refl refl .when may-read
+read-back = read-keeps P4 room written opened (replaced F1D0-written factory-objects) F1D0-written written-ready refl refl refl may-read
 
 -- with a length past used: the same 17 bytes, in a room of 21, which the length asked does not fit
 unfoldable pub past-used : List ℕ
@@ -121,7 +134,7 @@ may-read-short = search arith
 pub short-read : step past-used just-room written opened ≡
     record { outcome = 0; room = done-response (zeros 9 ++ hex "01 02 03 04 05 06 07 08"); store = written; session = opened }
 unfolding computed past-used just-room F1D0-written replaced put-in-front done-response
-short-read = read-exactly-when past-used just-room written opened (replaced F1D0-written factory-objects) F1D0-written just-ready refl refl .when may-read-short
+short-read = read-keeps past-used just-room written opened (replaced F1D0-written factory-objects) F1D0-written just-ready refl refl refl may-read-short
 
 -- a read that is done, with nothing assumed
 pub P4-shown : Shown P4 room written opened (step P4 room written opened)
@@ -179,7 +192,7 @@ unfoldable pub count-45 : List ℕ
 count-45 = hex "02 02 00 05 E1 20 00 00 2D"
 
 pub counter-ready : Ready room (pack (E120 ∷ [])) opened (E120 ∷ [])
-unfolding computed E120 size-with objects-allowed-with object-allowed-with all-allowed-with expression-allowed-with data-allowed
+unfolding computed allowing E120
 counter-ready = let sound = unpack-pack (E120 ∷ []) refl in search (sound, arith)
 
 pub may-count : MayWrite Count count-45 (seen (E120 ∷ []) opened) E120
@@ -195,6 +208,166 @@ pub counts-on : step count-45 room (pack (E120 ∷ [])) opened ≡
     }
 unfolding computed E120 count-45 replaced
 counts-on = write-exactly-when count-45 room (pack (E120 ∷ [])) opened (E120 ∷ []) E120 counter-ready Count refl refl refl .when may-count
+
+-- conditions that use up a counter ------------------------------------------------------------------------------------------
+
+-- 40 E1 20: while E120 is below its threshold
+unfoldable pub while-E120 : Expression
+while-E120 = when (only (just (record { subject = 0x40; relation = 0xE1; reference = 0x20 })))
+
+pub while-E120-bytes : expression-bytes while-E120 ≡ hex "40 E1 20"
+unfolding computed while-E120 expression-bytes groups-bytes group-bytes condition-bytes
+while-E120-bytes = refl
+
+-- three bytes that are changed and read only at the counter's cost
+unfoldable pub F1D1 : Object
+F1D1 =
+    record {
+      number = 0xF1D1;
+      kind = Data;
+      maximum = 4;
+      lcso = 0x01;
+      change = while-E120;
+      read = while-E120;
+      execute = never;
+      content = hex "AA BB CC";
+    }
+
+-- the counter after one use, and the bytes after 11 is written at 1
+unfoldable pub E120-used : Object
+E120-used = with-content (hex "00 00 01 00 00 00 01 2C") E120
+
+unfoldable pub F1D1-written : Object
+F1D1-written = with-content (hex "AA 11 CC") F1D1
+
+pub costly-ready : Ready room (pack (E120 ∷ F1D1 ∷ [])) opened (E120 ∷ F1D1 ∷ [])
+unfolding computed allowing E120 F1D1 while-E120
+costly-ready = let sound = unpack-pack (E120 ∷ F1D1 ∷ []) refl in search (sound, arith)
+
+unfoldable pub write-11 : List ℕ
+write-11 = hex "02 00 00 05 F1 D1 00 01 11"
+
+pub may-write-11 : MayWrite Write write-11 (seen (E120 ∷ F1D1 ∷ []) opened) F1D1
+unfolding computed E120 F1D1 while-E120 write-11
+may-write-11 = search
+
+-- the byte is written and the counter goes up by one
+pub write-11-writes : WritesExactly Write write-11 room (pack (E120 ∷ F1D1 ∷ [])) opened (E120 ∷ F1D1 ∷ []) F1D1
+    (step write-11 room (pack (E120 ∷ F1D1 ∷ [])) opened)
+unfolding computed E120 F1D1 write-11
+write-11-writes = write-exactly-when write-11 room (pack (E120 ∷ F1D1 ∷ [])) opened (E120 ∷ F1D1 ∷ []) F1D1 costly-ready Write refl refl refl
+
+pub write-11-done : step write-11 room (pack (E120 ∷ F1D1 ∷ [])) opened ≡
+    record { outcome = 0; room = put-in-front (done-response []) room; store = pack (E120-used ∷ F1D1-written ∷ []); session = opened }
+unfolding computed E120 E120-used F1D1 F1D1-written while-E120 write-11 replaced
+write-11-done = write-11-writes .when may-write-11
+
+pub write-11-uses-up : UsedUp (0xE120 ∷ []) (E120 ∷ F1D1-written ∷ []) (E120-used ∷ F1D1-written ∷ [])
+unfolding computed E120 E120-used F1D1 F1D1-written while-E120 write-11 replaced
+write-11-uses-up = write-11-writes .uses-up may-write-11
+
+-- a read shows the bytes, and the counter goes up by one
+unfoldable pub read-3 : List ℕ
+read-3 = hex "01 00 00 06 F1 D1 00 00 00 03"
+
+pub may-read-3 : MayRead read-3 (length room) (seen (E120 ∷ F1D1 ∷ []) opened) F1D1
+unfolding computed E120 F1D1 while-E120 read-3
+may-read-3 = search arith
+
+pub read-3-reads : ReadsExactly read-3 room (pack (E120 ∷ F1D1 ∷ [])) opened (E120 ∷ F1D1 ∷ []) F1D1 (step read-3 room (pack (E120 ∷ F1D1 ∷ [])) opened)
+unfolding computed E120 F1D1 read-3
+read-3-reads = read-exactly-when read-3 room (pack (E120 ∷ F1D1 ∷ [])) opened (E120 ∷ F1D1 ∷ []) F1D1 costly-ready refl refl
+
+pub read-3-done : step read-3 room (pack (E120 ∷ F1D1 ∷ [])) opened ≡
+    record { outcome = 0; room = put-in-front (done-response (hex "AA BB CC")) room; store = pack (E120-used ∷ F1D1 ∷ []); session = opened }
+unfolding computed E120 E120-used F1D1 while-E120 read-3
+read-3-done = read-3-reads .when may-read-3
+
+pub read-3-uses-up : UsedUp (0xE120 ∷ []) (E120 ∷ F1D1 ∷ []) (E120-used ∷ F1D1 ∷ [])
+unfolding computed E120 E120-used F1D1 while-E120 read-3
+read-3-uses-up = read-3-reads .uses-up may-read-3
+
+-- its metadata sent back changes nothing but the counter
+pub F1D1-sent-back : sent-back F1D1 ≡ hex "02 01 00 14 F1 D1 20 10 C0 01 01 D0 03 40 E1 20 D1 03 40 E1 20 D3 01 FF"
+unfolding computed F1D1 while-E120 sent-back without-sizes object-fields expression-bytes groups-bytes group-bytes condition-bytes
+F1D1-sent-back = refl
+
+pub sent-back-done : step (sent-back F1D1) room (pack (E120 ∷ F1D1 ∷ [])) opened ≡
+    record { outcome = 0; room = put-in-front (done-response []) room; store = pack (E120-used ∷ F1D1 ∷ []); session = opened }
+unfolding computed E120 E120-used F1D1 while-E120
+sent-back-done = send-back room (pack (E120 ∷ F1D1 ∷ [])) opened (E120 ∷ F1D1 ∷ []) 0xF1D1 F1D1 costly-ready refl refl
+
+-- a counter that is changed and read at its own cost: 40 E1 20 FD 40 E1 20, and 40 E1 20
+unfoldable pub own-E120 : Object
+own-E120 =
+    record {
+      number = 0xE120;
+      kind = Counter Up;
+      maximum = 8;
+      lcso = 0x01;
+      change = let c : Condition = record { subject = 0x40; relation = 0xE1; reference = 0x20 } in when (only (c and just c));
+      read = while-E120;
+      execute = never;
+      content = hex "00 00 00 FF 00 00 01 2C";
+    }
+
+pub own-ready : Ready room (pack (own-E120 ∷ [])) opened (own-E120 ∷ [])
+unfolding computed allowing own-E120 while-E120
+own-ready = let sound = unpack-pack (own-E120 ∷ []) refl in search (sound, arith)
+
+-- it is shown before its step
+unfoldable pub read-own : List ℕ
+read-own = hex "01 00 00 06 E1 20 00 00 00 08"
+
+pub may-read-own : MayRead read-own (length room) (seen (own-E120 ∷ []) opened) own-E120
+unfolding computed own-E120 while-E120 read-own
+may-read-own = search arith
+
+pub read-own-done : step read-own room (pack (own-E120 ∷ [])) opened ≡
+    record {
+      outcome = 0;
+      room = put-in-front (done-response (hex "00 00 00 FF 00 00 01 2C")) room;
+      store = pack (with-content (hex "00 00 01 00 00 00 01 2C") own-E120 ∷ []);
+      session = opened;
+    }
+unfolding computed own-E120 while-E120 read-own
+read-own-done = read-exactly-when read-own room (pack (own-E120 ∷ [])) opened (own-E120 ∷ []) own-E120 own-ready refl refl .when may-read-own
+
+-- written with 5 of 9 it steps once, after the write
+unfoldable pub write-5-of-9 : List ℕ
+write-5-of-9 = hex "02 00 00 0C E1 20 00 00 00 00 00 05 00 00 00 09"
+
+pub may-write-5-of-9 : MayWrite Write write-5-of-9 (seen (own-E120 ∷ []) opened) own-E120
+unfolding computed own-E120 write-5-of-9
+may-write-5-of-9 = search
+
+pub write-5-of-9-done : step write-5-of-9 room (pack (own-E120 ∷ [])) opened ≡
+    record {
+      outcome = 0;
+      room = put-in-front (done-response []) room;
+      store = pack (with-content (hex "00 00 00 06 00 00 00 09") own-E120 ∷ []);
+      session = opened;
+    }
+unfolding computed own-E120 write-5-of-9 replaced
+write-5-of-9-done = write-exactly-when write-5-of-9 room (pack (own-E120 ∷ [])) opened (own-E120 ∷ []) own-E120 own-ready Write refl refl refl .when may-write-5-of-9
+
+-- and written with 9 of 9 it stays there
+unfoldable pub write-9-of-9 : List ℕ
+write-9-of-9 = hex "02 00 00 0C E1 20 00 00 00 00 00 09 00 00 00 09"
+
+pub may-write-9-of-9 : MayWrite Write write-9-of-9 (seen (own-E120 ∷ []) opened) own-E120
+unfolding computed own-E120 write-9-of-9
+may-write-9-of-9 = search
+
+pub write-9-of-9-done : step write-9-of-9 room (pack (own-E120 ∷ [])) opened ≡
+    record {
+      outcome = 0;
+      room = put-in-front (done-response []) room;
+      store = pack (with-content (hex "00 00 00 09 00 00 00 09") own-E120 ∷ []);
+      session = opened;
+    }
+unfolding computed own-E120 write-9-of-9 replaced
+write-9-of-9-done = write-exactly-when write-9-of-9 room (pack (own-E120 ∷ [])) opened (own-E120 ∷ []) own-E120 own-ready Write refl refl refl .when may-write-9-of-9
 
 -- two lists, and a mix of them that takes from each in turn ---------------------------------------------------------------------------
 
@@ -228,32 +401,164 @@ taken-in-turn = first (second (first (second both-used-up)))
 outside : (k n : ℕ) → in-session k ≡ false → some k ≡ some n → in-session n ≡ false
 outside k n h e = let same : k ≡ n = cc in ap in-session (sym same) ∙ h
 
--- a list that names one object names no other
+-- commands on the object of number k that set no metadata, where it is o
+record OnOne (ts : List Turn) (begin : Kept) (k : ℕ) (o : Object) : Type 0 where
+  objects : List Object
+  store-sound : unpack (begin .store) ≡ some objects
+  there : find k objects ≡ some o
+  plain : All Plain ts
+  no-metadata : All (λ t. sets-metadata (row (t .command)) ≡ false) ts
+  each-names : All (λ t. object-of (t .command) ≡ some k) ts
+
+-- they name no other object
 one-named : (ts : List Turn) (k n : ℕ) → All (λ t. object-of (t .command) ≡ some k) ts → Names ts n → k ≡ n
 one-named [] k n a h = absurd h
 one-named (t ∷ ts) k n a (inl e) = let f = a .0 in cc
 one-named (t ∷ ts) k n a (inr h) = one-named ts k n (a .1) h
 
-none-common : (n : ℕ) → Names on-F1D0 n → Names on-F1E0 n → ⊥
-unfolding computed P3 P4 last-byte last-byte-back on-F1D0 on-F1E0
-none-common n p q =
-    let a = one-named on-F1D0 0xF1D0 n (refl, (refl, tt)) p in
-    let b = one-named on-F1E0 0xF1E0 n (refl, (refl, tt)) q in
-    omega arith
+-- and no counter but those in the conditions of o
+one-counted : {ts : List Turn} {begin : Kept} {k : ℕ} {o : Object} → OnOne ts begin k o → (n : ℕ) → NamesCounter ts begin n →
+    among (object-counters o) n ≡ true
+one-counted {ts} {begin} {k} {o} one n h =
+    let on = during-before ts ts begin n (one .plain) (one .no-metadata) h in
+    let objects : on .objects ≡ one .objects = Option·some-injective _ _ (sym (on .store-sound) ∙ one .store-sound) in
+    let number : on .number ≡ k = sym (one-named ts k (on .number) (one .each-names) (on .list-names)) in
+    let object : on .object ≡ o = Option·some-injective _ _ (sym (on .there) ∙ (λ i. find (number i) (objects i)) ∙ one .there) in
+    rw object at (on .condition-names)
 
-pub two-lists : TwoLists on-F1D0 on-F1E0
-unfolding computed P3 P4 last-byte last-byte-back on-F1D0 on-F1E0
-two-lists = search (outside, none-common) depth 8
+touched : {ts : List Turn} {begin : Kept} {k : ℕ} {o : Object} → OnOne ts begin k o → (n : ℕ) → Names ts n ⊎ NamesCounter ts begin n →
+    among (k ∷ object-counters o) n ≡ true
+unfolding among
+touched {ts} {begin} {k} {o} one n (inl h) = rw (eq-eqb n k (sym (one-named ts k n (one .each-names) h)))
+touched {ts} {begin} {k} {o} one n (inr h) = among-right (k ∷ []) (object-counters o) n (one-counted one n h)
+
+-- no number is in both
+none-in-both : (ms ns : List ℕ) → all (map (λ m. not (among ns m)) ms) ≡ true → (n : ℕ) → among ms n ≡ true → among ns n ≡ true → ⊥
+unfolding all among
+none-in-both [] ns t n h k = false≢true h
+none-in-both (m ∷ ms) ns t n h k =
+    by-test (eqb n m) (λ e. false≢true (sym (not-true _ (and-left _ _ t)) ∙ ap (among ns) (sym (eqb-true n m e)) ∙ k))
+    (λ e. none-in-both ms ns (and-right (not (among ns m)) _ t) n (rw e at h) k)
+
+-- lists on two objects, neither of which, nor a counter in its conditions, is the other's
+two-on : {xs ys : List Turn} {begin : Kept} {j k : ℕ} {o p : Object} → OnOne xs begin j o → OnOne ys begin k p →
+    all (map (λ m. not (among (k ∷ object-counters p) m)) (j ∷ object-counters o)) ≡ true → TwoLists xs ys begin
+two-on {j = j} {k = k} {o = o} {p = p} x y t =
+    let apart = none-in-both (j ∷ object-counters o) (k ∷ object-counters p) t in
+    record {
+      first-plain = x .plain;
+      second-plain = y .plain;
+      no-common-object = λ n a b. apart n (touched x n (inl a)) (touched y n (inl b));
+      first-counters-apart = λ n a b. apart n (touched x n (inr a)) (touched y n b);
+      second-counters-apart = λ n a b. apart n (touched x n b) (touched y n (inr a));
+    }
+
+-- `unfolding counters` opens the counters that conditions name
+counters : List Bool
+unfolding names-counter counter-number condition-counters group-counters groups-counters expression-counters object-counters
+counters = []
+
+-- the factory's conditions are on no counter
+all-on-F1D0 : OnOne on-F1D0 begun 0xF1D0 F1D0
+unfolding computed P3 P4 on-F1D0 begun sets-metadata
+all-on-F1D0 = search (factory-sound, outside) depth 8
+
+unfoldable pub F1E0 : Object
+F1E0 = made (entry 0xF1E0 1500)
+
+all-on-F1E0 : OnOne on-F1E0 begun 0xF1E0 F1E0
+unfolding computed last-byte last-byte-back on-F1E0 begun F1E0 sets-metadata
+all-on-F1E0 = search (factory-sound, outside) depth 8
+
+pub two-lists : TwoLists on-F1D0 on-F1E0 begun
+unfolding computed counters F1E0
+two-lists = two-on all-on-F1D0 all-on-F1E0 refl
 
 -- so demand 3 holds of them
 pub mixed-lists : Mixed reply left on-F1D0 on-F1E0 in-turn taken-in-turn begun
 mixed-lists = lists-mix taken-in-turn begun two-lists
 
+-- two lists that use up counters, each its own ---------------------------------------------------------------------------------------
+
+-- an up counter of one trip
+unfoldable pub trip : ℕ → Object
+trip n =
+    record {
+      number = n;
+      kind = Counter Up;
+      maximum = 8;
+      lcso = 0x01;
+      change = always;
+      read = always;
+      execute = always;
+      content = hex "00 00 00 00 00 00 00 01";
+    }
+
+-- 40 and a counter's number
+unfoldable pub while-below : ℕ → Expression
+while-below n = when (only (just (record { subject = 0x40; relation = n / 256; reference = n % 256 })))
+
+-- a data object of 2 bytes that is written while a counter is below its threshold
+unfoldable pub ticket : ℕ → ℕ → Object
+ticket n counter =
+    record {
+      number = n;
+      kind = Data;
+      maximum = 2;
+      lcso = 0x01;
+      change = while-below counter;
+      read = always;
+      execute = always;
+      content = [];
+    }
+
+unfoldable pub tickets : List Object
+tickets = trip 0xE120 ∷ trip 0xE121 ∷ ticket 0xF1D0 0xE120 ∷ ticket 0xF1E0 0xE121 ∷ []
+
+unfoldable pub sold : Kept
+sold = record { store = pack tickets; session = opened }
+
+-- two writes of each: the first uses up the counter, so that the second is refused
+unfoldable pub on-first : List Turn
+on-first = turn (hex "02 00 00 05 F1 D0 00 00 01") ∷ turn (hex "02 00 00 05 F1 D0 00 01 02") ∷ []
+
+unfoldable pub on-second : List Turn
+on-second = turn (hex "02 00 00 05 F1 E0 00 00 03") ∷ turn (hex "02 00 00 05 F1 E0 00 01 04") ∷ []
+
+tickets-sound : unpack (pack tickets) ≡ some tickets
+unfolding computed tickets trip ticket while-below size-with objects-allowed-with object-allowed-with all-allowed-with expression-allowed-with data-allowed counters condition-allowed group-allowed groups-allowed group-size conditions groups
+tickets-sound = unpack-pack tickets refl
+
+all-on-first : OnOne on-first sold 0xF1D0 (ticket 0xF1D0 0xE120)
+unfolding computed on-first sold sets-metadata tickets trip ticket
+all-on-first = let sound = tickets-sound in search (sound, outside) depth 8
+
+all-on-second : OnOne on-second sold 0xF1E0 (ticket 0xF1E0 0xE121)
+unfolding computed on-second sold sets-metadata tickets trip ticket
+all-on-second = let sound = tickets-sound in search (sound, outside) depth 8
+
+pub two-with-counters : TwoLists on-first on-second sold
+unfolding computed counters ticket while-below
+two-with-counters = two-on all-on-first all-on-second refl
+
+-- the first write of each is granted by its counter, and uses it up
+pub counter-used : uses (seen tickets opened) 0x01 (while-below 0xE120) ≡ 0xE120 ∷ []
+unfolding computed counters tickets trip ticket while-below usable condition-holds group-holds groups-grant grant
+counter-used = refl
+
+pub mixed-with-counters : {zs : List Turn} (m : Mix on-first on-second zs) → Mixed reply left on-first on-second zs m sold
+mixed-with-counters m = lists-mix m sold two-with-counters
+
+-- what is asked --------------------------------------------------------------------------------------------------------------------------
+
 -- of every two lists, no more is asked than the demand's words: each command a read or write, none that names an object of the session, none with
--- the flush bit, and no object number named in both
+-- the flush bit, no object number named in both, and no counter named in a condition of one list's objects that is an object or a named counter of
+-- the other list's
 pub plain-when : (t : Turn) → reads-or-writes (t .command) ≡ true → ((n : ℕ) → object-of (t .command) ≡ some n → in-session n ≡ false) →
     asks-flush (t .command) ≡ false → Plain t
 plain-when t r o f = search
 
-pub two-lists-when : (xs ys : List Turn) → All Plain xs → All Plain ys → ((n : ℕ) → Names xs n → Names ys n → ⊥) → TwoLists xs ys
-two-lists-when xs ys p q d = search
+pub two-lists-when : (xs ys : List Turn) (k : Kept) → All Plain xs → All Plain ys → ((n : ℕ) → Names xs n → Names ys n → ⊥) →
+    ((n : ℕ) → NamesCounter xs k n → Names ys n ⊎ NamesCounter ys k n → ⊥) →
+    ((n : ℕ) → NamesCounter ys k n → Names xs n ⊎ NamesCounter xs k n → ⊥) → TwoLists xs ys k
+two-lists-when xs ys k p q d c e = search

@@ -1,7 +1,7 @@
 -- The demands' own words about one command and about two lists.
 use Prim.Native.Nat.{ℕ, _+_, _/_, _%_, _≤_, _<_, min}
 use mathlib.Core.Bool.{Bool, true, false, not, _&&_}
-use mathlib.Core.List.{List, [], _∷_}
+use mathlib.Core.List.{List, [], _∷_, _++_}
 use mathlib.Core.Logic.{_⊎_}
 use mathlib.Core.Option.{Option, none, some}
 use mathlib.Core.Path.{_≡_}
@@ -12,20 +12,24 @@ use Rattle.rules.specs.declared.Session.{Session}
 use Rattle.rules.specs.declared.Refusal.{Refusal}
 use Rattle.rules.specs.declared.Action.{Action}
 use Rattle.rules.specs.declared.Action.the-variants.{GetData, GetMetadata, Write, EraseAndWrite, SetMetadata, Count}
+use Rattle.rules.specs.declared.Kind.the-variants.{Counter}
+use Rattle.rules.specs.declared.Direction.the-variants.{Up}
+use Rattle.rules.specs.declared.Row.{Row}
+use Rattle.rules.specs.declared.Row.the-variants.{OnObject, OpenApplication, CloseApplication, Unknown}
 use Rattle.rules.specs.Basic.{if_then_else_, among}
 use Rattle.rules.specs.Command.{asks-flush, object-number, offset, asked-length, sent-data, step-byte, sent-metadata, object-of}
 use Rattle.rules.specs.Response.{code, done-response, refused-response, put-in-front}
-use Rattle.rules.specs.Expression.{is-state}
-use Rattle.rules.specs.Object.{Object, used, is-counter, direction, in-session, with-content}
+use Rattle.rules.specs.Expression.{Expression, is-state}
+use Rattle.rules.specs.Object.{Object, used, is, is-counter, direction, in-session, with-content}
 use Rattle.rules.specs.Counter.{exhausted, after-count}
 use Rattle.rules.specs.Layout.{unpack, pack, find, replaced}
 use Rattle.rules.specs.Session.{with-error}
 use Rattle.rules.specs.Metadata.{Field, fields-bytes, object-fields, led-by-20, metadata-allowed, sent-fields, with-fields}
-use Rattle.rules.specs.Access.{Seen, seen, holds}
+use Rattle.rules.specs.Access.{Seen, seen, expression-counters, grant, holds, one-up, all-used-up}
 use Rattle.rules.specs.Operation.{shown, put-at, write-fits}
 use Rattle.rules.specs.Refusals.{ill-sized, wrong-length}
 use Rattle.rules.specs.Step.{After, raised, flushed}
-use Rattle.rules.specs.Run.{Turn, reads-or-writes}
+use Rattle.rules.specs.Run.{Turn, Kept, left, reads-or-writes}
 
 -- a response stands, and its status byte is 00 or FF
 unfoldable pub is-done : After → Bool
@@ -104,17 +108,35 @@ changed Count c o = with-content (after-count (direction (o .kind)) (step-byte c
 changed GetData c o = o
 changed GetMetadata c o = o
 
+-- the counters that a command uses up where this expression grants it: those of the first true group from the left
+abbrev pub uses : Seen → ℕ → Expression → List ℕ
+uses see lcso e = grant see lcso e .counters
+
+-- the objects before and after the counters ns are used up
+pub record UsedUp (ns : List ℕ) (os ps : List Object) : Type 0 where
+  -- each of them is there, counts up, and has gone up by one, once
+  pub counted : (n : ℕ) → among ns n ≡ true →
+      (o : Object) × (find n os ≡ some o) × (is (Counter Up) (o .kind) ≡ true) × (find n ps ≡ some (one-up o))
+  -- all others are as they were
+  pub others-kept : (n : ℕ) → among ns n ≡ false → find n ps ≡ find n os
+
 -- when a write makes its change
 pub record MayWrite (a : Action) (c : List ℕ) (see : Seen) (o : Object) : Type 0 where
   pub command-well-formed : well-formed c ≡ true
   pub change-condition-holds : holds see (o .lcso) (o .change) ≡ true
   pub content-allowed-and-fits : content-allowed a c o ≡ true
 
--- a write makes its change exactly when it may: then it is done and the object, and it alone, is the changed one; else nothing is stored
+-- the objects after a write: the object is the changed one, and then the counters that its change condition uses up are
+abbrev pub after-write : Action → List ℕ → Seen → Object → List Object → List Object
+after-write a c see o os = all-used-up (uses see (o .lcso) (o .change)) (replaced (changed a c o) os)
+
+-- a write makes its change exactly when it may: then it is done, the object is the changed one, each counter of the deciding group has stepped
+-- once, and all others are as they were; else nothing is stored
 pub record WritesExactly (a : Action) (c room store : List ℕ) (s : Session) (os : List Object) (o : Object) (after : After) : Type 0 where
   pub when : MayWrite a c (seen os s) o →
-      after ≡ record { outcome = 0; room = put-in-front (done-response []) room; store = pack (replaced (changed a c o) os); session = flushed c s }
-  pub objects-after : MayWrite a c (seen os s) o → unpack (after .store) ≡ some (replaced (changed a c o) os)
+      after ≡ record { outcome = 0; room = put-in-front (done-response []) room; store = pack (after-write a c (seen os s) o os); session = flushed c s }
+  pub objects-after : MayWrite a c (seen os s) o → unpack (after .store) ≡ some (after-write a c (seen os s) o os)
+  pub uses-up : MayWrite a c (seen os s) o → UsedUp (uses (seen os s) (o .lcso) (o .change)) (replaced (changed a c o) os) (after-write a c (seen os s) o os)
   pub only-when : is-done after ≡ true → MayWrite a c (seen os s) o
   pub else-kept : is-done after ≡ false → after .store ≡ store
 
@@ -137,15 +159,24 @@ pub record Shows (c content out : List ℕ) : Type 0 where
 abbrev pub bytes-shown : (out room store : List ℕ) → Session → After
 bytes-shown out room store s = record { outcome = 0; room = put-in-front (done-response out) room; store = store; session = s }
 
--- a data read shows exactly the stored bytes from offset to the smaller of used and offset + length, and only when the read condition holds; it
--- changes nothing stored
+-- the objects after a data read: the counters that its read condition uses up are
+abbrev pub after-read : Seen → Object → List Object → List Object
+after-read see o os = all-used-up (uses see (o .lcso) (o .read)) os
+
+-- a data read shows exactly the stored bytes from offset to the smaller of used and offset + length, as they were before any step, and only when
+-- the read condition holds; it stores nothing but the steps of the deciding group's counters
 pub record ReadsExactly (c room store : List ℕ) (s : Session) (os : List Object) (o : Object) (after : After) : Type 0 where
-  pub when : MayRead c (length room) (seen os s) o → after ≡ bytes-shown (shown c (o .content)) room store (flushed c s)
+  pub when : MayRead c (length room) (seen os s) o →
+      after ≡ bytes-shown (shown c (o .content)) room (pack (after-read (seen os s) o os)) (flushed c s)
+  pub objects-after : MayRead c (length room) (seen os s) o → unpack (after .store) ≡ some (after-read (seen os s) o os)
+  pub uses-up : MayRead c (length room) (seen os s) o → UsedUp (uses (seen os s) (o .lcso) (o .read)) os (after-read (seen os s) o os)
   -- those bytes it is, and no others can be
   pub shows : MayRead c (length room) (seen os s) o → Shows c (o .content) (shown c (o .content))
   pub nothing-else : (out : List ℕ) → Shows c (o .content) out → out ≡ shown c (o .content)
   pub only-when : is-done after ≡ true → MayRead c (length room) (seen os s) o
-  pub store-kept : after .store ≡ store
+  pub else-kept : is-done after ≡ false → after .store ≡ store
+  -- a read condition that uses up no counter: nothing stored changes
+  pub store-kept : uses (seen os s) (o .lcso) (o .read) ≡ [] → after .store ≡ store
 
 -- the byte of each object of the session: E0C0 the LcsG, F1C0 the LcsA, F1C2 the last error
 unfoldable pub session-byte : ℕ → Session → Option ℕ
@@ -177,7 +208,8 @@ after-byte c s = if eqb (object-number c) 0xF1C2 && asks-byte c then with-error 
 -- well formed; and either the object is stored and its read condition holds, or it is one of the session's three
 pub data Shown (c room store : List ℕ) (s : Session) (after : After) : Type 0 where
   of-object : (os : List Object) (o : Object) → Ready room store s os → find (object-number c) os ≡ some o → MayRead c (length room) (seen os s) o →
-      (out : List ℕ) → Shows c (o .content) out → after ≡ bytes-shown out room store (flushed c s) → Shown c room store s after
+      (out : List ℕ) → Shows c (o .content) out → after ≡ bytes-shown out room (pack (after-read (seen os s) o os)) (flushed c s) →
+      Shown c room store s after
   of-session : (os : List Object) (byte : ℕ) → Ready room store s os → MayReadByte c (length room) (flushed c s) byte →
       after ≡ bytes-shown (byte-shown c byte) room store (after-byte c (flushed c s)) → Shown c room store s after
 
@@ -206,9 +238,47 @@ abbrev pub Names : List Turn → ℕ → Type 0
 Names [] n = ⊥
 Names (t ∷ ts) n = (object-of (t .command) ≡ some n) ⊎ Names ts n
 
--- two lists as the demand takes them
-pub record TwoLists (xs ys : List Turn) : Type 0 where
+-- the counters that the conditions of an object name
+unfoldable pub object-counters : Object → List ℕ
+object-counters o = expression-counters (o .change) ++ expression-counters (o .read) ++ expression-counters (o .execute)
+
+-- in this store a condition of an object that the list names is on the counter n
+pub record ConditionOn (xs : List Turn) (store : List ℕ) (n : ℕ) : Type 0 where
+  pub objects : List Object
+  pub store-sound : unpack store ≡ some objects
+  pub number : ℕ
+  pub list-names : Names xs number
+  pub object : Object
+  pub there : find number objects ≡ some object
+  pub condition-names : among (object-counters object) n ≡ true
+
+-- the same before or during a run of ts from k
+abbrev pub During : (xs ts : List Turn) → Kept → ℕ → Type 0
+During xs [] k n = ConditionOn xs (k .store) n
+During xs (t ∷ ts) k n = ConditionOn xs (k .store) n ⊎ During xs ts (left t k) n
+
+-- a counter named in a condition of the list's objects, before or during the run of the list alone
+abbrev pub NamesCounter : List Turn → Kept → ℕ → Type 0
+NamesCounter xs k n = During xs xs k n
+
+-- a row that sets metadata: only such commands change conditions
+unfoldable pub sets-metadata : Row → Bool
+sets-metadata (OnObject SetMetadata) = true
+sets-metadata (OnObject GetData) = false
+sets-metadata (OnObject GetMetadata) = false
+sets-metadata (OnObject Write) = false
+sets-metadata (OnObject EraseAndWrite) = false
+sets-metadata (OnObject Count) = false
+sets-metadata OpenApplication = false
+sets-metadata CloseApplication = false
+sets-metadata Unknown = false
+
+-- two lists as the demand takes them, from a beginning
+pub record TwoLists (xs ys : List Turn) (k : Kept) : Type 0 where
   pub first-plain : All Plain xs
   pub second-plain : All Plain ys
   -- no object number is named in both lists
   pub no-common-object : (n : ℕ) → Names xs n → Names ys n → ⊥
+  -- no counter named in a condition of one list's objects is an object or a named counter of the other list's
+  pub first-counters-apart : (n : ℕ) → NamesCounter xs k n → Names ys n ⊎ NamesCounter ys k n → ⊥
+  pub second-counters-apart : (n : ℕ) → NamesCounter ys k n → Names xs n ⊎ NamesCounter xs k n → ⊥

@@ -22,29 +22,32 @@ use Rattle.rules.specs.Basic.{is-some, or-else}
 use Rattle.rules.specs.Command.{row, object-number, offset}
 use Rattle.rules.specs.Response.{code, done-response, refused-response, put-in-front}
 use Rattle.rules.specs.Object.{Object, used, of-session, object-allowed}
-use Rattle.rules.specs.Layout.{pack, unpack, found}
+use Rattle.rules.specs.Layout.{pack, unpack, replaced, found}
 use Rattle.rules.specs.Factory.{fresh-session}
 use Rattle.rules.specs.Session.{session-object, with-opened}
 use Rattle.rules.specs.Chain.{_and-then_}
-use Rattle.rules.specs.Access.{Seen, seen, seen-in, named, granted}
+use Rattle.rules.specs.Access.{Seen, seen, seen-in, all-used-up, named, granted}
 use Rattle.rules.specs.Operation.{operation, setting-session}
 use Rattle.rules.specs.Refusals.{early, ruling-on, ruling-of, ruling, late, verdict}
-use Rattle.rules.specs.Step.{raised, declined, replacing, performed, answered, judged, flushed, unanswered, step}
+use Rattle.rules.specs.Step.{raised, declined, replacing, objects-after, performed, answered, judged, flushed, unanswered, step}
 use Rattle.laws.proofs.Tests.{some-else}
 use Rattle.laws.proofs.Facts.{allowed}
-use Rattle.laws.proofs.Inverse.{pack-unpack}
+use Rattle.laws.proofs.Inverse.{unpack-pack, pack-unpack}
+use Rattle.laws.proofs.Places.{found-stands}
 use Rattle.laws.proofs.Verdicts.{passed, both-accepted, fitting-passed, fitting-accepts, LatePassed, late-passed}
 use Rattle.laws.proofs.Fitting.{write-within, operation-fitting, operation-outside}
 use Rattle.laws.proofs.Views.{Alike, operation-alike, session-left}
+use Rattle.laws.proofs.UsedUp.{none-used-up}
+use Rattle.laws.proofs.Keeps.{replaced-fits}
 use Rattle.record.specs.Places.{object-at, Stored}
 use Rattle.record.proofs.Standing.{standing}
-use Rattle.store.proofs.Placing.{recorded-there}
+use Rattle.store.proofs.Placing.{finds-it, recorded-there}
 use Rattle.command.proofs.InForm.{in-form}
 use Rattle.judge.specs.declared.Target.{Target}
 use Rattle.judge.specs.declared.Target.the-variants.{InSession, InStore, Nothing}
 use Rattle.judge.specs.Targets.{target-object, Placed}
 use Rattle.judge.specs.Verdicts.{session-verdict}
-use Rattle.judge.proofs.Judging.{session-judged}
+use Rattle.judge.proofs.Judging.{session-uses-none, session-judged}
 use Rattle.act.specs.Acting.{session-does, record-does, InSessionMay, OnRecordMay, stored-at}
 use Rattle.element.specs.declared.Answer.{Answer}
 use Rattle.element.specs.Executed.{executed, Executes}
@@ -145,12 +148,13 @@ module _ (a : Action) (c b : List ℕ) (s : Session) (aim : Target) (t : Placed 
 
       pub session-done : (n : ObjectNumber) (k : Kind) (byte : ℕ) (r : Session) → aim ≡ InSession n k byte → r ≡ session-does a c (n .0) byte s .session →
           xs ≡ put-in-front (done-response (session-does a c (n .0) byte s .answer)) room →
-          executed (record { outcome = 0; session = r }) xs b ≡ performed (ruling-on a c (target-object aim b) (seen-in b s) .does) room os
-      unfolding performed target-object ruling-on
+          executed (record { outcome = 0; session = r }) xs b ≡ performed (ruling-on a c (target-object aim b) (seen-in b s)) room os
+      unfolding performed objects-after target-object ruling-on
       session-done n k byte r e er ex =
           let (sessions, answers) = session-alike a c (n .0) byte (length room) k os s (session-may (length room) h n k byte e) in
           let stores = nothing-stored n k byte e _ refl in
-          rw (e, er, ex, sessions, answers, stores, ← packed)
+          let counters = session-uses-none a (n .0) byte k see (rw e at t) in
+          rw (e, er, ex, sessions, answers, stores, counters, none-used-up, ← packed)
 
       -- what is put at the place of a record is the packing of the changed objects
       same-store : (p : ℕ) → aim ≡ InStore p → (m : Option Object) → operation a c (object-at p b) see .stores ≡ m → stored-at p m b ≡ pack (replacing m os)
@@ -162,15 +166,41 @@ module _ (a : Action) (c b : List ℕ) (s : Session) (aim : Target) (t : Placed 
           let f = operation-fitting a c (object-at p b) see new ok (record-late (length room) h p e .own) q in
           recorded-there (object-number c) p b os unpacked (there .1) new (f .allowed) (f .number) (f .maximum)
 
-      pub record-done : (p : ℕ) (b′ : List ℕ) → aim ≡ InStore p → b′ ≡ stored-at p (record-does a c (object-at p b) .stores) b →
-          xs ≡ put-in-front (done-response (record-does a c (object-at p b) .answer)) room →
-          executed (record { outcome = 0; session = s }) xs b′ ≡ performed (ruling-on a c (target-object aim b) (seen-in b s) .does) room os
-      unfolding performed target-object ruling-on seen
-      record-done p b′ e eb ex =
+      -- and those objects are read back from it
+      still-sound : (p : ℕ) → aim ≡ InStore p → (m : Option Object) → operation a c (object-at p b) see .stores ≡ m →
+          unpack (pack (replacing m os)) ≡ some (replacing m os)
+      unfolding replacing
+      still-sound p e none q = rw (← packed) unpacked
+      still-sound p e (some new) q =
           let there : Stored p b × (found (object-number c) os ≡ found-at.At p) = rw e at t in
-          let outside = allowed (object-at p b) (standing p b (there .0 .stands) .allowed) .outside-session in
-          let alike : Alike (record-does a c (object-at p b)) (operation a c (object-at p b) see) = operation-alike a c (object-at p b) (seen [] fresh-session) see in
-          rw (e, eb, ex, alike .answer, alike .stores, same-store p e _ refl, session-left a c (object-at p b) see outside)
+          let ok = standing p b (there .0 .stands) .allowed in
+          let f = operation-fitting a c (object-at p b) see new ok (record-late (length room) h p e .own) q in
+          let st = found-stands (object-number c) os (object-at p b) (finds-it (object-number c) p b os unpacked (there .1)) in
+          unpack-pack (replaced new os) (replaced-fits (object-number c) os (object-at p b) new (pack-unpack b os unpacked .1) st f .allowed)
+
+      -- the store that the act leaves: the objects with the command's own change
+      module _ (p : ℕ) (b1 : List ℕ) (e : aim ≡ InStore p) (e1 : b1 ≡ stored-at p (record-does a c (object-at p b) .stores) b) where
+        alike : Alike (record-does a c (object-at p b)) (operation a c (object-at p b) see)
+        alike = operation-alike a c (object-at p b) (seen [] fresh-session) see
+
+        changed-store : b1 ≡ pack (replacing (operation a c (object-at p b) see .stores) os)
+        changed-store = rw (e1, alike .stores, same-store p e _ refl)
+
+        changed-sound : unpack b1 ≡ some (replacing (operation a c (object-at p b) see .stores) os)
+        changed-sound = rw changed-store (still-sound p e _ refl)
+
+        pub act-sound : is-some (unpack b1) ≡ true
+        act-sound = rw changed-sound
+
+        pub record-done : (ns : List ℕ) (b2 : List ℕ) → ns ≡ ruling-on a c (target-object aim b) (seen-in b s) .counters →
+            b2 ≡ pack (all-used-up ns (or-else (unpack b1) [])) →
+            xs ≡ put-in-front (done-response (record-does a c (object-at p b) .answer)) room →
+            executed (record { outcome = 0; session = s }) xs b2 ≡ performed (ruling-on a c (target-object aim b) (seen-in b s)) room os
+        unfolding performed objects-after target-object ruling-on seen
+        record-done ns b2 en e2 ex =
+            let there : Stored p b × (found (object-number c) os ≡ found-at.At p) = rw e at t in
+            let outside = allowed (object-at p b) (standing p b (there .0 .stands) .allowed) .outside-session in
+            rw (e2, en, ex, changed-sound, e, alike .answer, session-left a c (object-at p b) see outside)
 
 -- `on_object`: the verdict of the steps 9 to 13 decides -----------------------------------------------------------------------------
 
@@ -179,7 +209,7 @@ module _ (c b room : List ℕ) (s : Session) (a : early (is-some (unpack b)) c s
   accepted-sound = in-form (is-some (unpack b)) c s a .well-formed
 
   judged-by : (v : Verdict) → v ≡ late (ruling (row c) c (seen-in b s)) (length room) →
-      answered v (ruling (row c) c (seen-in b s) .does) room b (or-else (unpack b) []) s ≡ judged c room b (unpack b) s
+      answered v (ruling (row c) c (seen-in b s)) room b (or-else (unpack b) []) s ≡ judged c room b (unpack b) s
   unfolding judged verdict _and-then_ seen
   judged-by v e = rw (a, e)
 
@@ -196,7 +226,7 @@ module _ (c b room : List ℕ) (s : Session) (a : early (is-some (unpack b)) c s
 
     pub accepted-late : (v : Verdict) (r : Session) (xs b′ : List ℕ) → v ≡ late (ruling-on w c (target-object aim b) (seen-in b s)) (length room) →
         v ≡ Accepted →
-        executed (record { outcome = 0; session = r }) xs b′ ≡ performed (ruling-on w c (target-object aim b) (seen-in b s) .does) room (or-else (unpack b) []) →
+        executed (record { outcome = 0; session = r }) xs b′ ≡ performed (ruling-on w c (target-object aim b) (seen-in b s)) room (or-else (unpack b) []) →
         executed (record { outcome = 0; session = r }) xs b′ ≡ judged c room b (unpack b) s
     unfolding answered
     accepted-late v r xs b′ e q f = (rw ruling-is at f) ∙ judged-by Accepted (told q (rw ruling-is at e))
@@ -205,10 +235,11 @@ module _ (c b room : List ℕ) (s : Session) (a : early (is-some (unpack b)) c s
   module _ (four : 4 ≤ length room) (w : Row) (ew : w ≡ row c) (r : Answer) (xs : List ℕ) (eo : r .outcome ≡ 0)
       (ex : xs ≡ put-in-front (done-response []) room) where
     session-set : (s′ : Session) → ruling (row c) c (seen-in b s) ≡ ruling-of s′ → r .session ≡ s′ → executed r xs b ≡ judged c room b (unpack b) s
-    unfolding answered performed late ruling-of setting-session replacing _and-then_
+    unfolding answered performed objects-after late ruling-of setting-session replacing _and-then_
     session-set s′ e es =
         let packed = pack-unpack b (or-else (unpack b) []) (some-else (unpack b) [] accepted-sound) .0 in
-        let stands : executed r xs b ≡ answered Accepted (ruling (row c) c (seen-in b s) .does) room b (or-else (unpack b) []) s = rw (e, packed, eo, ex, es) in
+        let stands : executed r xs b ≡ answered Accepted (ruling (row c) c (seen-in b s)) room b (or-else (unpack b) []) s =
+        rw (e, none-used-up, packed, eo, ex, es) in
         stands ∙ judged-by Accepted (rw e (sym (fitting-accepts 0 (length room) four)))
 
     pub opened-set : (s′ : Session) → w ≡ OpenApplication → s′ ≡ with-opened true s → r .session ≡ s′ → executed r xs b ≡ judged c room b (unpack b) s

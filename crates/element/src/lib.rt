@@ -1,4 +1,5 @@
 // The library's entry: one command.
+use access::Counters;
 use judge::Target;
 use rules::Action;
 use rules::Refusal;
@@ -15,11 +16,13 @@ ghost use Rattle.rules.specs.declared.Row.the-variants.{OnObject};
 ghost use Rattle.rules.specs.Basic.{is-some, or-else};
 ghost use Rattle.rules.specs.Command.{row};
 ghost use Rattle.rules.specs.Response.{code, done-response, refused-response, put-in-front};
+ghost use Rattle.rules.specs.Expression.{slot-size, most-conditions};
 ghost use Rattle.rules.specs.Layout.{unpack};
 ghost use Rattle.rules.specs.Access.{seen-in};
 ghost use Rattle.rules.specs.Refusals.{early, ruling-on, late};
 ghost use Rattle.rules.specs.Step.{raised, performed, judged};
 ghost use Rattle.command.specs.Table.{InFull};
+ghost use Rattle.access.specs.Told.{listed};
 ghost use Rattle.judge.specs.Targets.{target-object, Placed};
 ghost use Rattle.element.specs.Executed.{executed, Executes};
 
@@ -29,19 +32,23 @@ pub struct Answer {
     pub session: Session,
 }
 
-// What is done at the target of an accepted get or set: the session after it. A number that names nothing was refused at step 9.
+// What is done at the target of an accepted get or set, its own change and then the step of each counter that it uses up: the session after it. A
+// number that names nothing was refused at step 9.
 fn perform(
     asked: Action,
     command: &[u8],
     aim: Target,
+    counters: Counters,
     store: &mut [u8],
     session: Session,
     room: &mut [u8],
 ) -> Session
     requires { ⌜ InFull asked (now command) × (is-some (unpack (now store)) ≡ true) × Placed aim (now command) (now store)
-        × (late (ruling-on asked (now command) (target-object aim (now store)) (seen-in (now store) session)) (length (now room)) ≡ Accepted) ⌝ }
+        × (late (ruling-on asked (now command) (target-object aim (now store)) (seen-in (now store) session)) (length (now room)) ≡ Accepted)
+        × (listed counters ≡ ruling-on asked (now command) (target-object aim (now store)) (seen-in (now store) session) .counters)
+        × (counters .count ≤ most-conditions slot-size) ⌝ }
     ensures { λ r. ⌜ executed (record { outcome = 0; session = r }) (now (room .exit)) (now (store .exit))
-        ≡ performed (ruling-on asked (now (command .entry)) (target-object aim (now (store .entry))) (seen-in (now (store .entry)) session) .does)
+        ≡ performed (ruling-on asked (now (command .entry)) (target-object aim (now (store .entry))) (seen-in (now (store .entry)) session))
         (now (room .entry)) (or-else (unpack (now (store .entry))) []) ⌝ }
 {
     match aim {
@@ -55,6 +62,7 @@ fn perform(
         ),
         Target::InStore(at) => {
             act::act_on_record(asked, command, store, at, room);
+            usage::use_up(store, counters);
             session
         }
         Target::Nothing => session,
@@ -87,12 +95,14 @@ fn on_object(
         ≡ judged (now (command .entry)) (now (room .entry)) (now (store .entry)) (unpack (now (store .entry))) session ⌝ }
 {
     let aim = judge::find_target(command, store, session);
-    let verdict = judge::judge_target(asked, command, aim, store, session, room.len());
+    let judgment = judge::judge_target(asked, command, aim, store, session, room.len());
+    let verdict = judgment.verdict;
+    let counters = judgment.counters;
     match verdict {
         Verdict::Refused(refusal) => refuse(refusal, session, room),
         Verdict::Accepted => Answer {
             outcome: 0,
-            session: perform(asked, command, aim, store, session, room),
+            session: perform(asked, command, aim, counters, store, session, room),
         },
     }
 }

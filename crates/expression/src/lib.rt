@@ -8,11 +8,14 @@ ghost use Rattle.rules.specs.Expression.{is-state, may-become, expression, cond
 ghost use Rattle.expression.specs.Conditions.{condition-at, groups-after};
 
 // Limits of an expression: conditions, groups, bytes. A condition is three bytes; one byte joins two.
-const CONDITIONS: usize = 7;
+pub const CONDITIONS: usize = 7;
 
 const GROUPS: usize = 3;
 
 pub const LONGEST: usize = 4 * CONDITIONS - 1;
+
+// What a condition on a counter begins with; the counter's number follows.
+pub const COUNTER: u8 = 0x40;
 
 // Whether the byte is a life cycle state.
 pub fn is_state(b: u8) -> bool
@@ -53,7 +56,7 @@ pub fn condition_allowed(part: &[u8], at: usize) -> bool
     ensures { λ r. ⌜ r ≡ condition-allowed (condition-at at (now (part .entry))) ⌝ }
 {
     if !is_one_of(part[at], 0x70, 0xE0, 0xE1) {
-        return false;
+        return part[at] == COUNTER;
     }
     if !is_one_of(part[at + 1], 0xFA, 0xFB, 0xFC) {
         return false;

@@ -1,14 +1,14 @@
 -- Steps 10 to 13, action by action, at an object of the session and at a found record.
-use Prim.Native.Nat.{ℕ, _+_, _-_, _≤_, min}
+use Prim.Native.Nat.{ℕ, _+_, _-_, min}
 use mathlib.Core.Path.{_≡_, refl, sym, ap, _∙_}
 use mathlib.Core.Bool.{Bool, true, false, not, _&&_}
-use mathlib.Core.List.{List}
+use mathlib.Core.List.{List, []}
 use native.Mathlib.Omega.{arith}
-use mathlib.Core.Option.{some}
+use mathlib.Core.Option.{none, some}
 use borrow.Author.Tests.{eqb-true, not-false}
 use lib.Dec.{eqb, leb}
-use lib.ListN.{length, getD, take, drop}
-use lib.Seq.{getD-drop, take-all}
+use lib.ListN.{length, getD}
+use lib.Seq.{getD-drop}
 use Rattle.rules.specs.declared.Kind.{Kind}
 use Rattle.rules.specs.declared.Kind.the-variants.{Counter, LifeCycle}
 use Rattle.rules.specs.declared.Direction.{Direction}
@@ -17,24 +17,28 @@ use Rattle.rules.specs.declared.ObjectNumber.{ObjectNumber}
 use Rattle.rules.specs.declared.Verdict.{Verdict}
 use Rattle.rules.specs.declared.Verdict.the-variants.{Refused, Accepted}
 use Rattle.rules.specs.declared.Refusal.{Refusal}
-use Rattle.rules.specs.declared.Refusal.the-variants.{AccessDenied, BoundaryExceeded, InvalidData}
+use Rattle.rules.specs.declared.Refusal.the-variants.{InvalidObject, AccessDenied, BoundaryExceeded, InvalidData}
 use Rattle.rules.specs.declared.Action.{Action}
 use Rattle.rules.specs.declared.Action.the-variants.{GetData, GetMetadata, Write, EraseAndWrite, SetMetadata, Count}
 use Rattle.rules.specs.Command.{offset, asked-length, sent-data, sent-metadata}
-use Rattle.rules.specs.Expression.{may-become}
-use Rattle.rules.specs.Object.{Object, used, kind-number, is, of-session, is-counter, direction, counter-size}
-use Rattle.rules.specs.Counter.{exhausted}
+use Rattle.rules.specs.Basic.{if_then_else_}
+use Rattle.rules.specs.Expression.{may-become, always, never}
+use Rattle.rules.specs.Object.{Object, used, kind-number, is, of-session, is-counter, counter-size}
 use Rattle.rules.specs.Metadata.{metadata-allowed}
+use Rattle.rules.specs.Factory.{fresh-session}
 use Rattle.rules.specs.Session.{session-change, session-object}
 use Rattle.rules.specs.Chain.{_refused_or_, _and-then_}
-use Rattle.rules.specs.Access.{Seen, holds, asked, granted}
+use Rattle.rules.specs.Access.{Seen, seen, Grant, grant, asked, access, granted}
 use Rattle.rules.specs.Operation.{shown, write-fits, value-allowed, operation}
 use Rattle.rules.specs.Refusals.{ruling-on, fitting, late}
 use Rattle.laws.proofs.Tests.{or-parts}
 use Rattle.laws.proofs.Puts.{shown-length}
+use Rattle.laws.proofs.Views.{operation-alike}
 use Rattle.record.specs.Places.{object-at, Stored}
 use Rattle.laws.proofs.Calls.{not-alike}
-use Rattle.record.proofs.Standing.{stored-kind, stored-counter}
+use Rattle.record.proofs.Standing.{stored-kind}
+use Rattle.access.specs.declared.Grant as declared
+use Rattle.access.specs.Told.{listed, told}
 use Rattle.judge.specs.declared.Target.{Target}
 use Rattle.judge.specs.declared.Target.the-variants.{InSession, InStore}
 use Rattle.judge.specs.Targets.{target-object, Placed}
@@ -62,22 +66,6 @@ front-told c k e = cc
 
 pub counter-told : (o : Object) (q : Bool) → q ≡ is-counter (o .kind) → not q ≡ false → is-counter (o .kind) ≡ true
 counter-told o q e h = sym e ∙ not-false q h
-
--- the counter at a found record: all of its data is in use
-module _ (p : ℕ) (b : List ℕ) (t : Stored p b) (h : is-counter (object-at p b .kind) ≡ true) where
-  pub counter-in-use : 0 + counter-size ≤ used (object-at p b)
-  counter-in-use = omega (arith, stored-counter p b t h .1)
-
-  module _ (d : List ℕ) (e : d ≡ take counter-size (drop 0 (object-at p b .content))) where
-    whole : d ≡ object-at p b .content
-    whole = e ∙ take-all counter-size (object-at p b .content) (omega (arith, stored-counter p b t h .1))
-
-    pub counter-part : length d ≡ counter-size
-    counter-part = ap length whole ∙ stored-counter p b t h .1
-
-    pub exhausted-there : (w : Direction) (r : Bool) → w ≡ direction (object-at p b .kind) → r ≡ exhausted w d →
-        r ≡ exhausted (direction (object-at p b .kind)) (object-at p b .content)
-    exhausted-there w r ew f = rw (← ew, ← whole) f
 
 pub becomes : (c : List ℕ) (byte : ℕ) (a : Bool) → a ≡ may-become byte (getD c 8 0) → a ≡ may-become byte (getD (sent-data c) 0 0)
 unfolding sent-data
@@ -153,7 +141,7 @@ no-counter k h = rw (← eqb-true 0x10001 (kind-number k) h)
 -- a write: of the kind, only whether it is a life cycle counts
 state-judged : (c : List ℕ) (n byte : ℕ) (k : Kind) (see : Seen) (room : ℕ) →
     state-verdict c k byte room ≡ late (ruling-on Write c (some (session-object n k byte)) see) room
-unfolding late ruling-on granted asked session-object session-change holds operation write-fits value-allowed _refused_or_ _and-then_
+unfolding late ruling-on access asked session-object session-change grant operation write-fits value-allowed _refused_or_ _and-then_
 state-judged c n byte k see room = by (is LifeCycle k) refl
   where
     by : (t : Bool) → is LifeCycle k ≡ t → state-verdict c k byte room ≡ late (ruling-on Write c (some (session-object n k byte)) see) room
@@ -163,16 +151,31 @@ state-judged c n byte k see room = by (is LifeCycle k) refl
 -- a count
 count-judged : (c : List ℕ) (n byte : ℕ) (k : Kind) (see : Seen) (room : ℕ) →
     session-count-verdict k ≡ late (ruling-on Count c (some (session-object n k byte)) see) room
-unfolding late ruling-on granted asked session-object session-change holds operation _refused_or_ _and-then_
+unfolding late ruling-on access asked session-object session-change grant operation _refused_or_ _and-then_
 count-judged c n byte k see room = by (is LifeCycle k) refl
   where
     by : (t : Bool) → is LifeCycle k ≡ t → session-count-verdict k ≡ late (ruling-on Count c (some (session-object n k byte)) see) room
     by true e = rw (e, no-counter k e)
     by false e = rw e
 
+always-or-never : (t : Bool) (see : Seen) (lcso : ℕ) → grant see lcso (if t then always else never) .counters ≡ []
+unfolding grant
+always-or-never true see lcso = refl
+always-or-never false see lcso = refl
+
+-- no counter is used up: their expressions are always and never
+pub session-uses-none : (a : Action) (n byte : ℕ) (k : Kind) (see : Seen) → of-session k ≡ true → access a (session-object n k byte) see .counters ≡ []
+unfolding access asked session-object session-change grant
+session-uses-none GetData n byte k see of = refl
+session-uses-none GetMetadata n byte k see of = rw of
+session-uses-none Write n byte k see of = always-or-never (is LifeCycle k) see _
+session-uses-none EraseAndWrite n byte k see of = always-or-never (is LifeCycle k) see _
+session-uses-none SetMetadata n byte k see of = rw of
+session-uses-none Count n byte k see of = always-or-never (is LifeCycle k) see _
+
 module _ (c : List ℕ) (n byte : ℕ) (k : Kind) (see : Seen) (room : ℕ) (of : of-session k ≡ true) where
   pub session-judged : (a : Action) → session-verdict a c k byte room ≡ late (ruling-on a c (some (session-object n k byte)) see) room
-  unfolding late ruling-on operation granted asked session-object holds _refused_or_ _and-then_
+  unfolding late ruling-on operation access asked session-object grant _refused_or_ _and-then_
   session-judged GetData = sym (judged c (session-object n k byte) see room GetData)
   session-judged GetMetadata = rw of
   session-judged Write = state-judged c n byte k see room
@@ -182,19 +185,19 @@ module _ (c : List ℕ) (n byte : ℕ) (k : Kind) (see : Seen) (room : ℕ) (of 
 
 -- at a found record ---------------------------------------------------------------------------------------------------------
 
+-- what an action's own steps say does not depend on what is seen
+own-alike : (a : Action) (c : List ℕ) (o : Object) (see : Seen) (room : ℕ) → own-verdict a c o room ≡ own c o see room a
+own-alike a c o see room =
+    let p = operation-alike a c o (seen [] fresh-session) see in
+    λ i. p .verdict i and-then fitting (length (p .answer i)) room
+
 module _ (p : ℕ) (b c : List ℕ) (room : ℕ) (r : Verdict) where
-  module _ (see : Seen) where
-    pub stored-judged : (a : Action) → r ≡ (not (granted a (object-at p b) see) refused AccessDenied or own c (object-at p b) see room a) →
-        r ≡ late (ruling-on a c (some (object-at p b)) see) room
-    stored-judged a f = f ∙ sym (judged c (object-at p b) see room a)
+  pub own-by : (a v : Action) → a ≡ v → r ≡ own-verdict v c (object-at p b) room → r ≡ own-verdict a c (object-at p b) room
+  own-by a v e f = rw e f
 
-    pub own-by : (a v : Action) → a ≡ v → r ≡ own c (object-at p b) see room v → r ≡ own c (object-at p b) see room a
-    own-by a v e f = rw e f
-
-    pub stored-get : (u : ℕ) → u ≡ used (object-at p b) → ((o : Object) → used o ≡ u → r ≡ own-verdict GetData c o room) →
-        r ≡ own c (object-at p b) see room GetData
-    unfolding operation
-    stored-get u eu f = f (object-at p b) (sym eu)
+  pub stored-get : (u : ℕ) → u ≡ used (object-at p b) → ((o : Object) → used o ≡ u → r ≡ own-verdict GetData c o room) →
+      r ≡ own-verdict GetData c (object-at p b) room
+  stored-get u eu f = f (object-at p b) (sym eu)
 
   -- of either action that writes
   pub stored-write : Stored p b → r ≡ write-verdict c (object-at p b) room →
@@ -206,15 +209,40 @@ module _ (p : ℕ) (b c : List ℕ) (room : ℕ) (r : Verdict) where
       any-value : value-allowed (object-at p b) (getD (sent-data c) 0 0) ≡ true
       any-value = unfold value-allowed of-session in rw (or-parts (is LifeCycle (object-at p b .kind)) _ (stored-kind p b t) .0)
 
+-- `judge_stored`; g is what `granted` answered
+module _ (g : declared.Grant) (a : Action) (c : List ℕ) (o : Object) (see : Seen) (e : told g ≡ access a o see) where
+  pub stored-judged : (room : ℕ) (r : Verdict) → r ≡ (not (g .granted) refused AccessDenied or own-verdict a c o room) →
+      r ≡ late (ruling-on a c (some o) see) room
+  unfolding told
+  stored-judged room r f =
+      f ∙ (λ i. not (e i .granted) refused AccessDenied or own-alike a c o see room i) ∙ sym (judged c o see room a)
+
+  pub stored-counters : listed (g .counters) ≡ ruling-on a c (some o) see .counters
+  unfolding told ruling-on
+  stored-counters = ap (λ (x : Grant). x .counters) e
+
 -- at the target ------------------------------------------------------------------------------------------------------------------
 
 pub at-target : (a : Action) (c b : List ℕ) (see : Seen) (room : ℕ) (aim v : Target) (r : Verdict) → aim ≡ v →
     r ≡ late (ruling-on a c (target-object v b) see) room → r ≡ late (ruling-on a c (target-object aim b) see) room
 at-target a c b see room aim v r e f = rw e f
 
-pub at-session : (a : Action) (c b : List ℕ) (see : Seen) (room : ℕ) (aim : Target) (r : Verdict) (n : ObjectNumber) (k : Kind) (byte : ℕ) → Placed aim c b →
-    aim ≡ InSession n k byte → r ≡ session-verdict a c k byte room → r ≡ late (ruling-on a c (some (session-object (n .0) k byte)) see) room
-at-session a c b see room aim r n k byte t e f = f ∙ session-judged c (n .0) byte k see room (rw e at t) a
+pub counters-at : (a : Action) (c b : List ℕ) (see : Seen) (aim v : Target) (ns : List ℕ) → aim ≡ v →
+    ns ≡ ruling-on a c (target-object v b) see .counters → ns ≡ ruling-on a c (target-object aim b) see .counters
+counters-at a c b see aim v ns e f = rw e f
+
+module _ (a : Action) (c b : List ℕ) (see : Seen) (aim : Target) (n : ObjectNumber) (k : Kind) (byte : ℕ) (t : Placed aim c b) (e : aim ≡ InSession n k byte) where
+  pub at-session : (room : ℕ) (v r : Verdict) → v ≡ session-verdict a c k byte room → r ≡ v →
+      r ≡ late (ruling-on a c (some (session-object (n .0) k byte)) see) room
+  at-session room v r f g = g ∙ f ∙ session-judged c (n .0) byte k see room (rw e at t) a
+
+  pub session-counters : (ns : List ℕ) → ns ≡ [] → ns ≡ ruling-on a c (some (session-object (n .0) k byte)) see .counters
+  unfolding ruling-on
+  session-counters ns z = z ∙ sym (session-uses-none a (n .0) byte k see (rw e at t))
+
+pub nothing-named : (a : Action) (c : List ℕ) (see : Seen) (room : ℕ) (r : Verdict) → r ≡ Refused InvalidObject → r ≡ late (ruling-on a c none see) room
+unfolding late ruling-on _and-then_
+nothing-named a c see room r e = e
 
 pub record-stands : (c b : List ℕ) (aim : Target) → Placed aim c b → (p : ℕ) → aim ≡ InStore p → Stored p b
 record-stands c b aim t p e = (rw e at t) .0

@@ -1,38 +1,49 @@
 // The object that a command names, and the steps 9 to 13.
+use access::Counters;
 use rules::Action;
 use rules::Found;
 use rules::Kind;
 use rules::Length;
 use rules::ObjectNumber;
-use rules::Offset;
 use rules::Refusal;
 use rules::Session;
 use rules::Verdict;
 ghost use mathlib.Core.Path.{_≡_};
-ghost use mathlib.Core.Bool.{true};
+ghost use mathlib.Core.Bool.{true, not};
+ghost use mathlib.Core.List.{[]};
 ghost use mathlib.Core.Option.{some};
 ghost use Prim.Native.Nat.{_≤_};
 ghost use lib.ListN.{length};
 ghost use Rattle.rules.specs.declared.Kind.the-variants.{LifeCycle};
 ghost use Rattle.rules.specs.declared.Action.the-variants.{GetData, SetMetadata, Count};
+ghost use Rattle.rules.specs.declared.Refusal.the-variants.{AccessDenied};
 ghost use Rattle.rules.specs.Basic.{is-some};
 ghost use Rattle.rules.specs.Command.{object-number, offset, sent-data};
-ghost use Rattle.rules.specs.Object.{Object, used, is, is-counter, direction};
+ghost use Rattle.rules.specs.Expression.{slot-size, most-conditions};
+ghost use Rattle.rules.specs.Object.{Object, used, is};
 ghost use Rattle.rules.specs.Layout.{unpack};
-ghost use Rattle.rules.specs.Counter.{exhausted};
+ghost use Rattle.rules.specs.Chain.{_refused_or_};
 ghost use Rattle.rules.specs.Access.{seen-in, named};
 ghost use Rattle.rules.specs.Operation.{write-fits};
-ghost use Rattle.rules.specs.Refusals.{ruling-on, late};
+ghost use Rattle.rules.specs.Refusals.{ruling-on};
+ghost use Rattle.access.specs.Told.{listed};
 ghost use Rattle.command.specs.Table.{InFull};
 ghost use Rattle.record.specs.Places.{object-at, Stored};
 ghost use Rattle.judge.specs.Targets.{target-object, Placed};
 ghost use Rattle.judge.specs.Verdicts.{write-verdict, state-verdict, own-verdict, session-count-verdict, session-verdict};
+ghost use Rattle.judge.specs.Judges.{Judges};
 
 // What a get or set names: an object of the session (its number, kind and byte), a record's place, or nothing.
 pub enum Target {
     InSession(ObjectNumber, Kind, u8),
     InStore(usize),
     Nothing,
+}
+
+// What the steps 9 to 13 say of a command, and the counters that it uses up where they accept it.
+pub struct Judgment {
+    pub verdict: Verdict,
+    pub counters: Counters,
 }
 
 pub fn find_target(command: &[u8], store: &[u8], session: Session) -> Target
@@ -91,15 +102,6 @@ fn judge_write(command: &[u8], store: &[u8], at: usize, room: usize) -> Verdict
     bounds::fitting(Length(0), room)
 }
 
-// Whether the counter of a found record is at or past its threshold: its bytes are a part of the store.
-fn exhausted(store: &[u8], at: usize) -> bool
-    requires { ⌜ Stored at (now store) × (is-counter (object-at at (now store) .kind) ≡ true) ⌝ }
-    ensures { λ r. ⌜ r ≡ exhausted (direction (object-at at (now (store .entry)) .kind)) (object-at at (now (store .entry)) .content) ⌝ }
-{
-    let part = record::data_part(store, at, Offset(0), Length(counter::SIZE));
-    counter::exhausted(part, record::direction(store, at))
-}
-
 // Of a count at a found record: 03 where it is no counter, then the steps 11 and 13.
 fn judge_count(command: &[u8], store: &[u8], at: usize, room: usize) -> Verdict
     requires { ⌜ Stored at (now store) × (8 ≤ length (now command)) ⌝ }
@@ -112,7 +114,7 @@ fn judge_count(command: &[u8], store: &[u8], at: usize, room: usize) -> Verdict
     if !front {
         return Verdict::Refused(Refusal::BoundaryExceeded);
     }
-    if exhausted(store, at) {
+    if record::exhausted(store, at) {
         return Verdict::Refused(Refusal::BoundaryExceeded);
     }
     bounds::fitting(Length(0), room)
@@ -187,20 +189,20 @@ fn judge_metadata(command: &[u8], store: &[u8], at: usize, room: usize) -> Verdi
     bounds::fitting(Length(0), room)
 }
 
-// Steps 10 to 13 at a found record.
-fn judge_stored(
+// Steps 10 to 13 at a found record: access is granted or not.
+fn judge_granted(
+    granted: bool,
     asked: Action,
     command: &[u8],
     store: &[u8],
     at: usize,
-    session: Session,
     room: usize,
 ) -> Verdict
     requires { ⌜ Stored at (now store) × InFull asked (now command) ⌝ }
     ensures { λ r. ⌜ r
-        ≡ late (ruling-on asked (now (command .entry)) (some (object-at at (now (store .entry)))) (seen-in (now (store .entry)) session)) room ⌝ }
+        ≡ (not granted refused AccessDenied or own-verdict asked (now (command .entry)) (object-at at (now (store .entry))) room) ⌝ }
 {
-    if !access::granted(asked, store, at, session) {
+    if !granted {
         return Verdict::Refused(Refusal::AccessDenied);
     }
     match asked {
@@ -213,6 +215,37 @@ fn judge_stored(
     }
 }
 
+// Steps 10 to 13 at a found record, and the counters that its expression uses up: they are listed before anything is written.
+fn judge_stored(
+    asked: Action,
+    command: &[u8],
+    store: &[u8],
+    at: usize,
+    session: Session,
+    room: usize,
+) -> Judgment
+    requires { ⌜ Stored at (now store) × (is-some (unpack (now store)) ≡ true) × InFull asked (now command) ⌝ }
+    ensures { λ r. ⌜ Judges r
+        (ruling-on asked (now (command .entry)) (some (object-at at (now (store .entry)))) (seen-in (now (store .entry)) session)) room ⌝ }
+{
+    let grant = access::granted(asked, store, at, session);
+    let counters = grant.counters;
+    Judgment {
+        verdict: judge_granted(grant.granted, asked, command, store, at, room),
+        counters,
+    }
+}
+
+// A verdict on what uses up no counter.
+fn without_counters(verdict: Verdict) -> Judgment
+    ensures { λ r. ⌜ (r .verdict ≡ verdict) × (listed (r .counters) ≡ []) × (r .counters .count ≤ most-conditions slot-size) ⌝ }
+{
+    Judgment {
+        verdict,
+        counters: access::no_counters(),
+    }
+}
+
 // Steps 9 to 13, at the target that the command names.
 pub fn judge_target(
     asked: Action,
@@ -221,13 +254,20 @@ pub fn judge_target(
     store: &[u8],
     session: Session,
     room: usize,
-) -> Verdict
-    requires { ⌜ InFull asked (now command) × Placed aim (now command) (now store) ⌝ }
-    ensures { λ r. ⌜ r ≡ late (ruling-on asked (now (command .entry)) (target-object aim (now (store .entry))) (seen-in (now (store .entry)) session)) room ⌝ }
+) -> Judgment
+    requires { ⌜ InFull asked (now command) × (is-some (unpack (now store)) ≡ true) × Placed aim (now command) (now store) ⌝ }
+    ensures { λ r. ⌜ Judges r
+        (ruling-on asked (now (command .entry)) (target-object aim (now (store .entry))) (seen-in (now (store .entry)) session)) room ⌝ }
 {
     match aim {
-        Target::InSession(_, kind, byte) => judge_session(asked, command, kind, byte, room),
+        Target::InSession(_, kind, byte) => without_counters(judge_session(
+            asked,
+            command,
+            kind,
+            byte,
+            room,
+        )),
         Target::InStore(at) => judge_stored(asked, command, store, at, session, room),
-        Target::Nothing => Verdict::Refused(Refusal::InvalidObject),
+        Target::Nothing => without_counters(Verdict::Refused(Refusal::InvalidObject)),
     }
 }

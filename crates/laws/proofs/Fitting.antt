@@ -15,13 +15,13 @@ use Rattle.rules.specs.declared.Direction.the-variants.{Up, Down}
 use Rattle.rules.specs.declared.Action.{Action}
 use Rattle.rules.specs.declared.Action.the-variants.{GetData, GetMetadata, Write, EraseAndWrite, SetMetadata, Count}
 use Rattle.rules.specs.declared.Verdict.the-variants.{Accepted}
-use Rattle.rules.specs.Basic.{if_then_else_, or-else, big-endian-4}
+use Rattle.rules.specs.Basic.{if_then_else_, among, or-else, big-endian-4}
 use Rattle.rules.specs.Command.{offset, sent-data, step-byte, sent-metadata}
 use Rattle.rules.specs.Expression.{Expression, never, expression, expression-allowed, is-state, may-become}
 use Rattle.rules.specs.Object.{Object, kind-number, is, of-session, is-counter, direction, counter-size, data-allowed, object-allowed, with-content}
 use Rattle.rules.specs.Counter.{after-count}
 use Rattle.rules.specs.Metadata.{Field, field-allowed, fields-allowed, value-of, sent-state, sent-expression, with-fields, metadata-allowed, sent-fields}
-use Rattle.rules.specs.Access.{Seen, holds, asked, granted}
+use Rattle.rules.specs.Access.{Seen, grant, holds, one-up, used-up, asked, access, granted}
 use Rattle.rules.specs.Operation.{put-at, write-fits, writing, operation}
 use Rattle.laws.proofs.Tests.{if-by, and-left, and-right, at-place}
 use Rattle.laws.proofs.Expressions.{expression-read}
@@ -80,6 +80,16 @@ counter-stored (Counter Down) h = refl
 counter-stored LifeCycle h = absurd (false≢true h)
 counter-stored Status h = absurd (false≢true h)
 
+-- a counter up is one, and counts up
+module _ (k : Kind) (h : is (Counter Up) k ≡ true) where
+  pub up-is-counter : is-counter k ≡ true
+  unfolding is-counter
+  up-is-counter = rw h
+
+  pub up-direction : direction k ≡ Up
+  unfolding direction is kind-number
+  up-direction = let number : 2 ≡ kind-number k = unfold is kind-number in eqb-true 2 (kind-number k) h in rw (← number)
+
 pub count-length : (d : Direction) (step : ℕ) (b : List ℕ) → length b ≡ counter-size → length (after-count d step b) ≡ counter-size
 unfolding after-count big-endian-4
 count-length d step b h = simp length-drop (omega arith)
@@ -127,7 +137,7 @@ not-chosen false p new e = (refl, cc)
 
 -- what is granted is not `never`
 pub not-never : (t : Bool) (see : Seen) (lcso : ℕ) (e : Expression) → holds see lcso (if t then never else e) ≡ true → t ≡ false
-unfolding holds
+unfolding grant
 not-never true see lcso e g = absurd (false≢true g)
 not-never false see lcso e g = refl
 
@@ -176,10 +186,23 @@ operation-fitting Count c o see new h v e =
 -- and nothing is stored in the place of an object of the session
 pub operation-outside : (a : Action) (c : List ℕ) (o : Object) (see : Seen) (new : Object) → granted a o see ≡ true →
     operation a c o see .verdict ≡ Accepted → operation a c o see .stores ≡ some new → of-session (o .kind) ≡ false
-unfolding operation granted asked
+unfolding operation access asked
 operation-outside GetData c o see new g v e = let z : _≡_ {A = ℕ} 0 1 = cc in absurd (omega arith)
 operation-outside GetMetadata c o see new g v e = let z : _≡_ {A = ℕ} 0 1 = cc in absurd (omega arith)
 operation-outside Write c o see new g v e = not-chosen (of-session (o .kind)) _ new e .0
 operation-outside EraseAndWrite c o see new g v e = not-chosen (of-session (o .kind)) _ new e .0
 operation-outside SetMetadata c o see new g v e = not-never (of-session (o .kind)) see (o .lcso) (o .change) g
 operation-outside Count c o see new g v e = counter-stored (o .kind) (not-false _ (passed _ _ _ v .0))
+
+-- counters used up -----------------------------------------------------------------------------------------------------------
+
+-- a counter that goes up by one fits, and so does every object after the counters of these numbers did
+pub used-up-fits : (ns : List ℕ) (o : Object) → object-allowed o ≡ true → Fitting o (used-up ns o)
+unfolding used-up one-up
+used-up-fits ns o h =
+    if-by (Fitting o) (is (Counter Up) (o .kind) && among ns (o .number)) (one-up o) o
+    (λ t.
+    let counter = up-is-counter (o .kind) (and-left _ _ t) in
+    let long = count-length Up 1 (o .content) (counter-content o h counter) in
+    content-fits _ o h (omega (arith, long, counter-maximum o h counter)) (λ r. long))
+    (λ t. record { allowed = h; number = refl; maximum = refl })

@@ -1,13 +1,13 @@
 -- A command ends unanswered, refused or performed (`step-by`). So it keeps a sound store sound, and store and room as long as they were.
 use Prim.Native.Nat.{ℕ, _≤_, _<_}
 use mathlib.Core.Bool.{true, false, false≢true}
-use mathlib.Core.List.{map-append, List, [], _∷_, _++_}
+use mathlib.Core.List.{List, [], _∷_, _++_, map, map-append}
 use mathlib.Core.Option.{Option, none, some}
 use mathlib.Core.Path.{_≡_, refl, sym, ap, _∙_}
 use native.Mathlib.Omega.{arith}
 use borrow.Author.Tests.{ltb-true, ltb-false}
 use lib.Dec.{ltb}
-use lib.ListN.{length, length-append, length-drop}
+use lib.ListN.{length, length-append, length-drop, length-map}
 use Rattle.rules.specs.declared.Session.{Session}
 use Rattle.rules.specs.declared.Row.{Row}
 use Rattle.rules.specs.declared.Row.the-variants.{OnObject, OpenApplication, CloseApplication, Unknown}
@@ -18,18 +18,18 @@ use Rattle.rules.specs.Basic.{is-some, or-else}
 use Rattle.rules.specs.Command.{row, object-number}
 use Rattle.rules.specs.Response.{done-response, refused-response, put-in-front}
 use Rattle.rules.specs.Object.{Object, object-allowed, all-allowed-with, all-allowed}
-use Rattle.rules.specs.Layout.{size-with, size, objects-allowed-with, objects-allowed, unpack}
-use Rattle.rules.specs.Access.{Seen, seen, named}
-use Rattle.rules.specs.Operation.{Operation, setting-session, operation}
-use Rattle.rules.specs.Refusals.{unsound, ruling-on, ruling-of, ruling, late, verdict}
-use Rattle.rules.specs.Step.{After, replacing, performed, declined, answered, judged, flushed, unanswered, step}
+use Rattle.rules.specs.Layout.{size-with, size, objects-allowed-with, objects-allowed, unpack, replaced}
+use Rattle.rules.specs.Access.{Seen, seen, named, used-up, all-used-up}
+use Rattle.rules.specs.Operation.{setting-session, operation}
+use Rattle.rules.specs.Refusals.{unsound, Ruling, ruling-on, ruling-of, ruling, late, verdict}
+use Rattle.rules.specs.Step.{After, replacing, objects-after, performed, declined, answered, judged, flushed, unanswered, step}
 use Rattle.laws.proofs.Tests.{if-by, and-left, and-right}
 use Rattle.laws.proofs.Facts.{numbers, all-allowed-facts}
 use Rattle.laws.proofs.Inverse.{unpack-pack, pack-unpack}
 use Rattle.laws.proofs.Places.{Stands, replaced-at, pack-length}
 use Rattle.laws.proofs.Verdicts.{answer-fits, nine-passed, early-passed, verdict-passed}
 use Rattle.laws.proofs.Named.{in-store, found-there}
-use Rattle.laws.proofs.Fitting.{Fitting, operation-fitting, operation-outside}
+use Rattle.laws.proofs.Fitting.{Fitting, operation-fitting, operation-outside, used-up-fits}
 
 -- the objects after ------------------------------------------------------------------------------------------------------
 
@@ -58,6 +58,38 @@ module _ (o new : Object) (after : List Object) (f : Fitting o new) where
       let numbered : numbers (before ++ new ∷ after) ≡ numbers (before ++ o ∷ after) = simp (map-append, f .number) in
       record { allowed = rw (same, swap-size before, numbered, swap-all before each) (rw each at h); size = swap-size before }
 
+pub replaced-fits : (n : ℕ) (os : List Object) (o new : Object) → objects-allowed os ≡ true → Stands n os o → Fitting o new → StillAllowed os (replaced new os)
+replaced-fits n os o new h st f =
+    let rises = rw (st .split) at (all-allowed-facts os h .rises) in
+    let k = swapped o new (st .after) f (st .before) (rw (st .split) at h) in
+    rw (st .split) (rw (replaced-at (st .before) o (st .after) new (f .number) rises) k)
+
+-- each in its place by one that fits
+module _ (f : Object → Object) (fits : (o : Object) → object-allowed o ≡ true → Fitting o (f o)) where
+  each-allowed : (os : List Object) → all-allowed os ≡ true → all-allowed (map f os) ≡ true
+  unfolding all-allowed-with
+  each-allowed [] h = refl
+  each-allowed (o ∷ os) h = rw (fits o (and-left (object-allowed o) _ h) .allowed, each-allowed os (and-right (object-allowed o) _ h))
+
+  each-size : (os : List Object) → all-allowed os ≡ true → size (map f os) ≡ size os
+  unfolding all-allowed-with size-with
+  each-size [] h = refl
+  each-size (o ∷ os) h = rw (fits o (and-left (object-allowed o) _ h) .maximum, each-size os (and-right (object-allowed o) _ h))
+
+  each-numbered : (os : List Object) → all-allowed os ≡ true → numbers (map f os) ≡ numbers os
+  unfolding all-allowed-with numbers
+  each-numbered [] h = refl
+  each-numbered (o ∷ os) h = λ i. fits o (and-left (object-allowed o) _ h) .number i ∷ each-numbered os (and-right (object-allowed o) _ h) i
+
+  pub each-fits : (os : List Object) → objects-allowed os ≡ true → StillAllowed os (map f os)
+  unfolding objects-allowed-with numbers
+  each-fits os h =
+      let each = all-allowed-facts os h .each in
+      record {
+        allowed = rw (length-map os f, each-size os each, each-numbered os each, each-allowed os each) (rw each at h);
+        size = each-size os each;
+      }
+
 -- what is stored fits in the place of an object of the store
 pub record StoredFits (n : ℕ) (os : List Object) (new : Object) : Type 0 where
   pub object : Object
@@ -79,26 +111,32 @@ ruling-fits OpenApplication c os s room new h v e = let z : _≡_ {A = ℕ} 0 1 
 ruling-fits CloseApplication c os s room new h v e = let z : _≡_ {A = ℕ} 0 1 = cc in absurd (omega arith)
 ruling-fits Unknown c os s room new h v e = let z : _≡_ {A = ℕ} 0 1 = cc in absurd (omega arith)
 
--- so the objects after it are allowed, and as large
-pub ruling-kept : (r : Row) (c : List ℕ) (os : List Object) (s : Session) (room : ℕ) → objects-allowed os ≡ true →
+-- so the objects with it in its place are allowed, and as large
+pub replaced-kept : (r : Row) (c : List ℕ) (os : List Object) (s : Session) (room : ℕ) → objects-allowed os ≡ true →
     late (ruling r c (seen os s)) room ≡ Accepted → StillAllowed os (replacing (ruling r c (seen os s) .does .stores) os)
 unfolding replacing
-ruling-kept r c os s room h v =
+replaced-kept r c os s room h v =
     elim (ruling r c (seen os s) .does .stores) as (λ m. ruling r c (seen os s) .does .stores ≡ m → StillAllowed os (replacing m os)) [
       | none ↦ λ e. record { allowed = h; size = refl }
       | some new ↦ λ e.
           let f = ruling-fits r c os s room new h v e in
-          let st = f .stands in
-          let rises = rw (st .split) at (all-allowed-facts os h .rises) in
-          let k = swapped (f .object) new (st .after) (f .fits) (st .before) (rw (st .split) at h) in
-          rw (st .split) (rw (replaced-at (st .before) (f .object) (st .after) new (f .fits .number) rises) k)
+          replaced-fits (object-number c) os (f .object) new h (f .stands) (f .fits)
     ] refl
+
+-- and so are those after the command
+pub ruling-kept : (r : Row) (c : List ℕ) (os : List Object) (s : Session) (room : ℕ) → objects-allowed os ≡ true →
+    late (ruling r c (seen os s)) room ≡ Accepted → StillAllowed os (objects-after (ruling r c (seen os s)) os)
+unfolding objects-after all-used-up
+ruling-kept r c os s room h v =
+    let changed = replaced-kept r c os s room h v in
+    let stepped = each-fits (used-up (ruling r c (seen os s) .counters)) (used-up-fits _) _ (changed .allowed) in
+    record { allowed = stepped .allowed; size = stepped .size ∙ changed .size }
 
 -- one command -----------------------------------------------------------------------------------------------------------
 
--- what a command does with these objects, and what the steps 2 to 13 say of it
-abbrev pub does : List ℕ → Option (List Object) → Session → Operation
-does c objects s = ruling (row c) c (seen (or-else objects []) s) .does
+-- the ruling on a command with these objects, and what the steps 2 to 13 say of it
+abbrev pub ruled : List ℕ → Option (List Object) → Session → Ruling
+ruled c objects s = ruling (row c) c (seen (or-else objects []) s)
 
 abbrev pub judgment : List ℕ → List ℕ → Option (List Object) → Session → Verdict
 judgment c room objects s = verdict (is-some objects) c (length room) (seen (or-else objects []) s)
@@ -113,13 +151,13 @@ module _ (P : After → Type 0) (c room store : List ℕ) (s : Session) where
   -- what holds where no status fits, of every refusal, and of what an accepted command performs, holds of the step
   pub step-by : (length room < 4 → P (unanswered room store s)) →
       (4 ≤ length room → (r : Refusal) → judgment c room objects now ≡ Refused r → P (declined r room store now)) →
-      (4 ≤ length room → judgment c room objects now ≡ Accepted → P (performed (does c objects now) room (or-else objects []))) →
+      (4 ≤ length room → judgment c room objects now ≡ Accepted → P (performed (ruled c objects now) room (or-else objects []))) →
       P (step c room store s)
   unfolding step judged answered
   step-by unanswerable refuses performs =
       if-by P (ltb (length room) 4) (unanswered room store s) (judged c room store objects now) (λ e. unanswerable (ltb-true (length room) 4 e))
       (λ e.
-      elim (judgment c room objects now) as (λ v. judgment c room objects now ≡ v → P (answered v (does c objects now) room store (or-else objects []) now))
+      elim (judgment c room objects now) as (λ v. judgment c room objects now ≡ v → P (answered v (ruled c objects now) room store (or-else objects []) now))
       [ Refused r ↦ refuses (ltb-false (length room) 4 e) r | Accepted ↦ performs (ltb-false (length room) 4 e) ] refl)
 
 -- a store that is still sound, and as long as it was
@@ -167,5 +205,5 @@ pub step-room-length : (c room store : List ℕ) (s : Session) → length (step 
 unfolding unanswered declined performed refused-response done-response
 step-room-length c room store s =
     step-by (λ a. length (a .room) ≡ length room) c room store s (λ l. refl) (λ l r e. front-length refused-response room l)
-    (λ l e. front-length (done-response (does c (unpack store) (flushed c s) .answer)) room
+    (λ l e. front-length (done-response (ruled c (unpack store) (flushed c s) .does .answer)) room
     (omega (arith, answer-fits _ (length room) (verdict-passed (is-some (unpack store)) c (length room) _ e .1))))

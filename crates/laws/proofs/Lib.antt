@@ -10,7 +10,10 @@ pub mod Puts
 pub mod Verdicts
 pub mod Rows
 pub mod Named
+pub mod Grants
 pub mod Fitting
+pub mod UsedUp
 pub mod Views
 pub mod Keeps
+pub mod UsedOnce
 pub mod Factory

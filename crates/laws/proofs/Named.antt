@@ -1,4 +1,4 @@
--- The object that a command names, of the session or of the store; and what is seen does not depend on the last error.
+-- The object that a command names, of the session or of the store.
 use Prim.Native.Nat.{ℕ}
 use mathlib.Core.Bool.{true, false, false≢true}
 use mathlib.Core.List.{List, [], _∷_, _++_}
@@ -9,13 +9,10 @@ use lib.Dec.{eqb}
 use Rattle.mixing.specs.Runs.{All}
 use Rattle.rules.specs.declared.Session.{Session}
 use Rattle.rules.specs.Basic.{among, first-of}
-use Rattle.rules.specs.Command.{asks-flush}
-use Rattle.rules.specs.Expression.{Condition, Group, just, _and_, Groups, only, _or_, Expression, always, never, when}
 use Rattle.rules.specs.Object.{Object, in-session, of-session, is, kind-number, object-allowed, all-allowed-with, all-allowed}
 use Rattle.rules.specs.Layout.{objects-allowed, find}
-use Rattle.rules.specs.Session.{with-error, with-state, session-object, session-objects}
-use Rattle.rules.specs.Access.{Seen, seen, named, present, condition-holds, group-holds, groups-hold, holds}
-use Rattle.rules.specs.Step.{flushed}
+use Rattle.rules.specs.Session.{with-state, session-object, session-objects}
+use Rattle.rules.specs.Access.{Seen, named}
 use Rattle.laws.proofs.Tests.{if-by, and-left, and-right, or-parts, or-left, or-right}
 use Rattle.laws.proofs.Facts.{Storable, storable, numbers, Allowed, allowed, all-allowed-facts}
 use Rattle.laws.proofs.Places.{Stands, found-stands}
@@ -90,50 +87,3 @@ found-there n os o h e =
     let outside-session : in-session n ≡ false = rw (st .number) at (a .outside-session) in
     let storable = storable (o .kind) (o .maximum) (o .content) (a .content) in
     search
-
--- what is seen ---------------------------------------------------------------------------------------------------------------
-
--- two views with the same life cycles judge every expression alike
-module _ (see other : Seen) (lcsg : see .session .lcsg ≡ other .session .lcsg) (lcsa : see .session .lcsa ≡ other .session .lcsa) (lcso : ℕ) where
-  condition-alike : (c : Condition) → condition-holds see lcso c ≡ condition-holds other lcso c
-  unfolding condition-holds present
-  condition-alike c = rw (lcsg, lcsa)
-
-  group-alike : (g : Group) → group-holds see lcso g ≡ group-holds other lcso g
-  unfolding group-holds
-  group-alike (just c) = condition-alike c
-  group-alike (c and g) = rw (condition-alike c, group-alike g)
-
-  groups-alike : (gs : Groups) → groups-hold see lcso gs ≡ groups-hold other lcso gs
-  unfolding groups-hold
-  groups-alike (only g) = group-alike g
-  groups-alike (g or gs) = rw (group-alike g, groups-alike gs)
-
-  pub holds-alike : (e : Expression) → holds see lcso e ≡ holds other lcso e
-  unfolding holds
-  holds-alike always = refl
-  holds-alike never = refl
-  holds-alike (when gs) = groups-alike gs
-
--- two sessions with all but the last error in common
-pub record SameStates (s x : Session) : Type 0 where
-  pub opened : s .opened ≡ x .opened
-  pub lcsg : s .lcsg ≡ x .lcsg
-  pub lcsa : s .lcsa ≡ x .lcsa
-
-pub same-states : (s : Session) → SameStates s s
-same-states s = search
-
--- the last error is none of them
-pub error-aside : (n : ℕ) (s : Session) → SameStates (with-error n s) s
-unfolding with-error
-error-aside n s = search
-
--- a flush changes the last error alone
-pub flush-keeps : (c : List ℕ) (s : Session) → SameStates (flushed c s) s
-unfolding flushed
-flush-keeps c s = if-by (λ x. SameStates x s) (asks-flush c) (with-error 0 s) s (λ e. error-aside 0 s) (λ e. same-states s)
-
-pub flush-holds : (c : List ℕ) (s : Session) (os : List Object) (lcso : ℕ) (e : Expression) → holds (seen os (flushed c s)) lcso e ≡ holds (seen os s) lcso e
-unfolding seen
-flush-holds c s os lcso e = let f = flush-keeps c s in holds-alike (seen os (flushed c s)) (seen os s) (f .lcsg) (f .lcsa) lcso e

@@ -11,9 +11,9 @@ use lib.ListN.{length, length-append}
 use Rattle.rules.specs.Basic.{rising-from, rising}
 use Rattle.rules.specs.Expression.{slot-size}
 use Rattle.rules.specs.Object.{Object, object-allowed-with, all-allowed-with, all-allowed}
-use Rattle.rules.specs.Layout.{size-with, size, record-bytes-with, record-bytes, pack-with, pack, find, replaced}
+use Rattle.rules.specs.Layout.{size-with, size, objects-allowed, record-bytes-with, record-bytes, pack-with, pack, find, replaced}
 use Rattle.laws.proofs.Tests.{if-by, and-left, and-right}
-use Rattle.laws.proofs.Facts.{allowed-with, numbers}
+use Rattle.laws.proofs.Facts.{allowed-with, numbers, all-allowed-facts}
 use Rattle.laws.proofs.Inverse.{record-length-with}
 
 -- bytes of several records --------------------------------------------------------------------------------------------
@@ -97,6 +97,12 @@ replaced-at [] o after new e h =
 replaced-at (p ∷ before) o after new e h =
     let l : p .number < o .number = rising-to (p .number) before o after h in
     rw (ne-eqb (p .number) (new .number) (λ q. omega arith)) (ap (λ x. p ∷ x) (replaced-at before o after new e (rising-tail (p .number) _ h)))
+
+-- an object in its own place
+pub replaced-itself : (n : ℕ) (os : List Object) (o : Object) → objects-allowed os ≡ true → find n os ≡ some o → replaced o os ≡ os
+replaced-itself n os o h e =
+    let st = found-stands n os o e in
+    rw (st .split) (replaced-at (st .before) o (st .after) o refl (rw (st .split) at (all-allowed-facts os h .rises)))
 
 -- the store's bytes after it
 pub replaced-bytes : (before : List Object) (o : Object) (after : List Object) (new : Object) → new .number ≡ o .number →

@@ -1,6 +1,7 @@
--- What an action looks at and leaves: of the session it looks at the life cycles alone, and it changes the session only through the session's objects.
+-- What an action looks at and leaves: of the session it looks at the life cycles alone, of the store at its object and the counters that its
+-- expression names; it changes the session only through the session's objects.
 use Prim.Native.Nat.{ℕ}
-use mathlib.Core.Bool.{Bool, false, not}
+use mathlib.Core.Bool.{Bool, true, false, not}
 use mathlib.Core.List.{List}
 use mathlib.Core.Option.{Option, none, some}
 use mathlib.Core.Path.{_≡_, refl}
@@ -11,10 +12,12 @@ use Rattle.rules.specs.declared.Action.the-variants.{GetData, GetMetadata, Writ
 use Rattle.rules.specs.declared.Refusal.the-variants.{AccessDenied}
 use Rattle.rules.specs.Object.{Object, in-session}
 use Rattle.rules.specs.Chain.{_refused_or_, _and-then_}
-use Rattle.rules.specs.Access.{Seen, asked, granted}
+use Rattle.rules.specs.Basic.{among}
+use Rattle.rules.specs.Access.{Seen, expression-counters, asked, access}
 use Rattle.rules.specs.Operation.{Operation, setting-session, operation}
 use Rattle.rules.specs.Refusals.{unsound, unusable, early, Ruling, ruling-on, fitting, late}
-use Rattle.laws.proofs.Named.{SameStates, holds-alike, state-outside, not-error-object}
+use Rattle.laws.proofs.Named.{state-outside, not-error-object}
+use Rattle.laws.proofs.Grants.{SameStates, grant-alike}
 
 -- two that see the same life cycles -----------------------------------------------------------------------------------------
 
@@ -37,19 +40,21 @@ operation-alike EraseAndWrite c o see other = search
 operation-alike SetMetadata c o see other = search
 operation-alike Count c o see other = search
 
--- rulings: what they say and what they do
+-- rulings: what they say, what they do and what they use up
 pub record RulingAlike (r q : Ruling) : Type 0 where
   pub verdict : r .verdict ≡ q .verdict
   pub does : Alike (r .does) (q .does)
+  pub counters : r .counters ≡ q .counters
 
 pub ruling-alike : (a : Action) (c : List ℕ) (m : Option Object) (see other : Seen) → SameStates (see .session) (other .session) →
+    ((o : Object) → m ≡ some o → (n : ℕ) → among (expression-counters (asked a o)) n ≡ true → see .stored n ≡ other .stored n) →
     RulingAlike (ruling-on a c m see) (ruling-on a c m other)
-unfolding ruling-on setting-session granted
-ruling-alike a c none see other v = search
-ruling-alike a c (some o) see other v =
+unfolding ruling-on setting-session access
+ruling-alike a c none see other v same = search
+ruling-alike a c (some o) see other v same =
     let p = operation-alike a c o see other in
-    let g = holds-alike see other (v .lcsg) (v .lcsa) (o .lcso) (asked a o) in
-    record { verdict = λ i. not (g i) refused AccessDenied or p .verdict i; does = p }
+    let g = grant-alike see other (v .lcsg) (v .lcsa) (o .lcso) (asked a o) (same o refl) in
+    record { verdict = λ i. not (g i .granted) refused AccessDenied or p .verdict i; does = p; counters = λ i. g i .counters }
 
 pub late-alike : (r q : Ruling) (room : ℕ) → RulingAlike r q → late r room ≡ late q room
 unfolding late

@@ -17,7 +17,7 @@ use Rattle.rules.specs.Basic.{if_then_else_, zeros, big-endian-at}
 use Rattle.rules.specs.Hex.{ascii}
 use Rattle.rules.specs.Object.{Object}
 use Rattle.rules.specs.Factory.{factory-store, fresh-session, factory-made}
-use Rattle.rules.specs.Operation.{Operation}
+use Rattle.rules.specs.Refusals.{Ruling}
 use Rattle.rules.specs.Step.{After, declined, performed, answered, judged, unanswered, step}
 use Rattle.rules.specs.Program.{digit, upper-hex, line, response-in, answer-line, lines, printed}
 use Rattle.listing.specs.Text.{in-front, shown-size, Put}
@@ -25,7 +25,7 @@ use Rattle.listing.proofs.Texts.{Onward, put-next, onward, onward-last,
 
 -- the outcome is one digit ------------------------------------------------------------------------------------------------------
 
-either-small : (t : Bool) (v : Verdict) (p : Operation) (room store : List ℕ) (os : List Object) (s s′ : Session) →
+either-small : (t : Bool) (v : Verdict) (p : Ruling) (room store : List ℕ) (os : List Object) (s s′ : Session) →
     (if t then unanswered room store s else answered v p room store os s′) .outcome < 16
 unfolding unanswered answered declined performed
 either-small true v p room store os s s′ = omega arith

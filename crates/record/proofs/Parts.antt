@@ -1,21 +1,23 @@
--- The parts of a record that are lent: the expression in a slot, and data in use.
+-- The parts of a record that are lent: the expression in a slot, data in use, and the bytes of a counter.
 use Prim.Native.Nat.{ℕ, _+_, _-_, _≤_}
-use mathlib.Core.Bool.{true}
+use mathlib.Core.Bool.{Bool, true}
 use mathlib.Core.List.{List}
-use mathlib.Core.Path.{_≡_, _∙_}
+use mathlib.Core.Path.{_≡_, ap, _∙_}
 use native.Mathlib.Omega.{arith}
 use native.Mathlib.Nat.{add-sub-cancel-left}
 use lib.ListN.{length, getD, take, drop, length-drop}
-use lib.Seq.{drop-drop, take-append-le, drop-append-le}
+use lib.Seq.{drop-drop, take-append-le, drop-append-le, take-all}
+use Rattle.rules.specs.declared.Direction.{Direction}
 use Rattle.rules.specs.declared.Slot.{Slot}
 use Rattle.rules.specs.Basic.{is-some}
 use Rattle.rules.specs.Expression.{expression, expression-bytes}
-use Rattle.rules.specs.Object.{used, expression-in}
+use Rattle.rules.specs.Object.{used, is-counter, direction, counter-size, expression-in}
+use Rattle.rules.specs.Counter.{exhausted}
 use Rattle.rules.specs.Layout.{head-size, slot-at}
 use Rattle.laws.proofs.Expressions.{expression-back}
 use Rattle.expression.proofs.Tests.{some-is}
 use Rattle.record.specs.Places.{object-at, Stored}
-use Rattle.record.proofs.Standing.{Slotted, standing, slot-allowed, slot-here, data-here, slot-inside, slot-small, slot-value}
+use Rattle.record.proofs.Standing.{Slotted, standing, slot-allowed, slot-here, data-here, slot-inside, slot-small, slot-value, stored-counter}
 
 -- the expression in a slot ----------------------------------------------------------------------------------------------
 
@@ -44,3 +46,20 @@ data-lent p k n b s h =
     let t = standing p b (s .stands) in
     rw (add-sub-cancel-left, ← drop-drop k (p + head-size) b, data-here p b o _ (t .allowed) (t .here), drop-append-le k (o .content) _ (omega arith))
     (take-append-le n (drop k (o .content)) _ (simp length-drop (omega arith)))
+
+-- a counter: all of its data is in use ----------------------------------------------------------------------------------
+
+module _ (p : ℕ) (b : List ℕ) (t : Stored p b) (h : is-counter (object-at p b .kind) ≡ true) where
+  pub counter-in-use : 0 + counter-size ≤ used (object-at p b)
+  counter-in-use = omega (arith, stored-counter p b t h .1)
+
+  module _ (d : List ℕ) (e : d ≡ take counter-size (drop 0 (object-at p b .content))) where
+    whole : d ≡ object-at p b .content
+    whole = e ∙ take-all counter-size (object-at p b .content) (omega (arith, stored-counter p b t h .1))
+
+    pub counter-part : length d ≡ counter-size
+    counter-part = ap length whole ∙ stored-counter p b t h .1
+
+    pub exhausted-there : (w : Direction) (r : Bool) → w ≡ direction (object-at p b .kind) → r ≡ exhausted w d →
+        r ≡ exhausted (direction (object-at p b .kind)) (object-at p b .content)
+    exhausted-there w r ew f = rw (← ew, ← whole) f

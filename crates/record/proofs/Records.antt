@@ -225,7 +225,7 @@ pub read-none : (n m : ℕ) (b : List ℕ) → (n ≡ 1 → ⊥) → (n ≡ 2 �
 unfolding kind-allowed read-kind kind-number
 read-none n m b d u w = rw (ne-eqb n 1 d, ne-eqb n 2 u, ne-eqb 4 n (λ e. w (sym e)))
 
--- `is_counter`, `direction`: by the number of the kind
+-- `is_counter`, `is_up_counter`, `direction`: by the number of the kind
 module _ (k : Kind) (n : ℕ) (e : n ≡ kind-number k) where
   is-by : (l : Kind) → is l k ≡ eqb n (kind-number l)
   unfolding is
@@ -236,6 +236,10 @@ module _ (k : Kind) (n : ℕ) (e : n ≡ kind-number k) where
   pub counter-by : (r : Bool) → r ≡ (eqb n 2 || eqb n 4) → r ≡ is-counter k
   unfolding is-counter kind-number
   counter-by r f = rw (is-by (Counter Up), is-by (Counter Down)) f
+
+  pub up-counter-by : (r : Bool) → r ≡ eqb n 2 → r ≡ is (Counter Up) k
+  unfolding kind-number
+  up-counter-by r f = rw (is-by (Counter Up)) f
 
   pub down-by : n ≡ 4 → Down ≡ direction k
   unfolding direction kind-number

@@ -5,15 +5,17 @@ use rules::ObjectNumber;
 use rules::Offset;
 use rules::Slot;
 ghost use mathlib.Core.Path.{_≡_};
-ghost use mathlib.Core.Bool.{_&&_};
+ghost use mathlib.Core.Bool.{true, _&&_};
 ghost use Prim.Native.Nat.{_+_, _≤_, _<_};
 ghost use lib.Dec.{eqb};
 ghost use lib.ListN.{length, getD, take, drop};
-ghost use Rattle.rules.specs.declared.Kind.the-variants.{Data};
+ghost use Rattle.rules.specs.declared.Kind.the-variants.{Data, Counter};
+ghost use Rattle.rules.specs.declared.Direction.the-variants.{Up};
 ghost use Rattle.rules.specs.Basic.{little-endian-at, little-endian};
 ghost use Rattle.rules.specs.Expression.{expression-bytes};
-ghost use Rattle.rules.specs.Object.{used, kind-number, is-counter, direction, counter-size, in-session, expression-in};
+ghost use Rattle.rules.specs.Object.{used, kind-number, is, is-counter, direction, counter-size, in-session, expression-in};
 ghost use Rattle.rules.specs.Layout.{slot-size, head-size, slot-at, slot-of};
+ghost use Rattle.rules.specs.Counter.{exhausted};
 ghost use Rattle.primitives.specs.Bytes.{over};
 ghost use Rattle.record.specs.Places.{object-at, Stored};
 ghost use Rattle.record.specs.Records.{filled, is-slot, head-allowed, kind-allowed, slots-allowed, body-allowed, is-record, fixed};
@@ -252,6 +254,14 @@ pub fn is_counter(store: &[u8], at: usize) -> bool
     primitives::or(kind == UP_KIND, kind == DOWN_KIND)
 }
 
+// Whether the object of a found record is a counter that counts up.
+pub fn is_up_counter(store: &[u8], at: usize) -> bool
+    requires { ⌜ Stored at (now store) ⌝ }
+    ensures { λ r. ⌜ r ≡ is (Counter Up) (object-at at (now (store .entry)) .kind) ⌝ }
+{
+    kind_at(store, at) == UP_KIND
+}
+
 // The way that a counter counts.
 pub fn direction(store: &[u8], at: usize) -> Direction
     requires { ⌜ Stored at (now store) ⌝ }
@@ -325,6 +335,15 @@ pub fn data_part(store: &[u8], at: usize, offset: Offset, length: Length) -> &[u
     let a = at + DATA + offset.0;
     let e = a + length.0;
     &store[a..e]
+}
+
+// Whether the counter of a found record is at or past its threshold: its bytes are a part of the store.
+pub fn exhausted(store: &[u8], at: usize) -> bool
+    requires { ⌜ Stored at (now store) × (is-counter (object-at at (now store) .kind) ≡ true) ⌝ }
+    ensures { λ r. ⌜ r ≡ exhausted (direction (object-at at (now (store .entry)) .kind)) (object-at at (now (store .entry)) .content) ⌝ }
+{
+    let part = data_part(store, at, Offset(0), Length(counter::SIZE));
+    counter::exhausted(part, direction(store, at))
 }
 
 // Where the object's data ends, and its record with it.

@@ -1,4 +1,5 @@
--- The bench sheet: P1 to P12 as one table, its other lines, and the six slips; then short reads, lists of commands, and counters.
+-- The bench sheet: P1 to P12 as one table, its other lines, and the six slips; then short reads, lists of commands, counters, and the conditions
+-- that use them up.
 use Prim.Native.Nat.{ℕ}
 use mathlib.Core.Bool.{true, false}
 use mathlib.Core.List.{List, [], _∷_, _++_}
@@ -7,7 +8,7 @@ use Rattle.rules.specs.Hex.{hex, ascii}
 use Rattle.rules.specs.Factory.{factory-store, fresh-session}
 use Rattle.rules.specs.Cases.{session, opened, closed, _gives_, _refused_leaving_, in-room, done-empty, turn, told}
 use Rattle.rules.specs.Cases.{Case, talk, judge, begins, reads-writes, runs, prints}
-use Rattle.rules.specs.Stores.{by-hand, second-record, third-record, three, up-counter, down-counter}
+use Rattle.rules.specs.Stores.{by-hand, second-record, third-record, three, up-counter, down-counter, guarded, guarded-counter}
 
 unfoldable pub open-command : List ℕ
 open-command = hex "70 00 00 10 D2 76 00 00 04 47 65 6E 41 75 74 68 41 70 70 6C"
@@ -230,4 +231,80 @@ counter-cases =
     hex "01 00 00 06 E1 20 00 00 00 04" gives hex "00 00 00 04 FF FF FF FF" ∷
     hex "02 02 00 05 E1 21 00 00 FF" gives done-empty ∷
     hex "01 00 00 06 E1 21 00 00 00 04" gives hex "00 00 00 04 00 00 00 00" ∷ [])
+    (opened 0x00) ∷ []
+
+-- conditions that use up a counter
+unfoldable pub condition-cases : List Case
+condition-cases =
+    -- below its threshold it holds and goes up by one: three changes, and no more; what is refused uses nothing up, nor does a get of metadata
+    talk (up-counter 0x20 (hex "00 00 00 00 00 00 00 03") ++ guarded 0xD0 "03 40 E1 20" "01 00") (opened 0x00)
+    (hex "02 00 00 05 F1 D0 00 00 01" gives done-empty ∷
+    hex "01 00 00 06 E1 20 00 00 00 08" gives hex "00 00 00 08 00 00 00 01 00 00 00 03" ∷
+    hex "02 00 00 05 F1 D0 00 04 01" refused 0x08 leaving 0x08 ∷
+    hex "02 01 00 07 F1 D0 20 03 C0 01 03" gives done-empty ∷
+    hex "02 01 00 07 F1 D0 20 03 D1 01 01" refused 0x05 leaving 0x08 ∷
+    hex "02 02 00 05 F1 D0 00 00 01" refused 0x03 leaving 0x08 ∷
+    hex "01 01 00 02 F1 D0" gives hex "00 00 00 18 20 16 C0 01 03 C4 02 00 04 C5 02 00 03 D0 03 40 E1 20 D1 01 00 D3 01 00" ∷
+    hex "02 40 00 05 F1 D0 00 00 01" gives done-empty ∷
+    hex "01 00 00 06 E1 20 00 00 00 08" gives hex "00 00 00 08 00 00 00 03 00 00 00 03" ∷
+    hex "02 00 00 05 F1 D0 00 00 01" refused 0x07 leaving 0x08 ∷ [])
+    (opened 0x08) ∷
+    -- the first true group from the left decides, each of its counters once; FD and FE in a number join nothing; at last a group that names none
+    talk
+    (up-counter 0x20 (hex "00 00 00 00 00 00 00 09") ++ up-counter 0x21 (hex "00 00 00 05 00 00 00 05") ++
+    guarded 0xD0 "01 00" "13 40 E1 21 FE 40 E1 20 FD 40 FD FE FD 40 E1 20 FE 70 FA 01" ++
+    by-hand (hex "68 00 02 00 FE FD 08 00 08 00 01 00") "01 00" "01 00" "01 00" (hex "00 00 00 00 00 00 00 01"))
+    (opened 0x00)
+    (hex "01 00 00 06 F1 D0 00 00 00 03" gives hex "00 00 00 03 0A 0B 0C" ∷
+    hex "01 00 00 06 E1 20 00 00 00 04" gives hex "00 00 00 04 00 00 00 01" ∷
+    hex "01 00 00 06 FD FE 00 00 00 04" gives hex "00 00 00 04 00 00 00 01" ∷
+    hex "01 00 00 06 E1 21 00 00 00 04" gives hex "00 00 00 04 00 00 00 05" ∷
+    hex "01 00 00 06 F1 D0 00 00 00 03" gives hex "00 00 00 03 0A 0B 0C" ∷
+    hex "01 00 00 06 E1 20 00 00 00 04" gives hex "00 00 00 04 00 00 00 01" ∷ [])
+    (opened 0x00) ∷
+    -- a later group that is true spares nothing and uses nothing up
+    talk
+    (up-counter 0x20 (hex "00 00 00 00 00 00 00 09") ++ up-counter 0x21 (hex "00 00 00 00 00 00 00 09") ++ guarded 0xD0 "07 40 E1 20 FE 40 E1 21" "01 00")
+    (opened 0x00)
+    (hex "02 00 00 05 F1 D0 00 00 01" gives done-empty ∷
+    hex "01 00 00 06 E1 20 00 00 00 04" gives hex "00 00 00 04 00 00 00 01" ∷
+    hex "01 00 00 06 E1 21 00 00 00 04" gives hex "00 00 00 04 00 00 00 00" ∷ [])
+    (opened 0x00) ∷
+    -- only an up counter that exists
+    talk
+    (down-counter 0x21 (hex "00 00 00 00 00 00 00 09") ++ guarded 0xD0 "03 40 E1 21" "03 40 E1 20" ++ guarded 0xD1 "03 40 E0 C0" "03 40 F1 D0")
+    (opened 0x00)
+    (hex "02 00 00 05 F1 D0 00 00 01" refused 0x07 leaving 0x07 ∷
+    hex "01 00 00 06 F1 D0 00 00 00 00" refused 0x07 leaving 0x07 ∷
+    hex "02 00 00 05 F1 D1 00 00 01" refused 0x07 leaving 0x07 ∷
+    hex "01 00 00 06 F1 D1 00 00 00 00" refused 0x07 leaving 0x07 ∷ [])
+    (opened 0x07) ∷
+    -- a read shows a counter before its step
+    talk (guarded-counter 0x20 "01 00" "03 40 E1 20" (hex "00 00 00 00 00 00 00 02")) (opened 0x00)
+    (hex "01 00 00 06 E1 20 00 00 00 08" gives hex "00 00 00 08 00 00 00 00 00 00 00 02" ∷
+    hex "01 00 00 06 E1 20 00 00 00 08" gives hex "00 00 00 08 00 00 00 01 00 00 00 02" ∷
+    hex "01 00 00 06 E1 20 00 00 00 08" refused 0x07 leaving 0x07 ∷ [])
+    (opened 0x07) ∷
+    -- a counter that the command itself wrote steps after the write, without refusal, to the smaller of value plus one and threshold
+    talk (guarded-counter 0x20 "03 40 E1 20" "01 00" (hex "00 00 00 00 00 00 00 09")) (opened 0x00)
+    (hex "02 02 00 05 E1 20 00 00 03" gives done-empty ∷
+    hex "01 00 00 06 E1 20 00 00 00 08" gives hex "00 00 00 08 00 00 00 04 00 00 00 09" ∷
+    hex "02 00 00 0C E1 20 00 00 00 00 00 02 00 00 00 07" gives done-empty ∷
+    hex "01 00 00 06 E1 20 00 00 00 08" gives hex "00 00 00 08 00 00 00 03 00 00 00 07" ∷
+    hex "02 40 00 0C E1 20 00 00 00 00 00 0A 00 00 00 05" gives done-empty ∷
+    hex "01 00 00 06 E1 20 00 00 00 08" gives hex "00 00 00 08 00 00 00 05 00 00 00 05" ∷
+    hex "02 01 00 07 E1 20 20 03 D0 01 00" refused 0x07 leaving 0x07 ∷ [])
+    (opened 0x07) ∷
+    -- metadata sent back moves the counters of the change expression; a new expression is asked from the next command on
+    talk
+    (up-counter 0x20 (hex "00 00 00 00 00 00 00 09") ++ up-counter 0x21 (hex "00 00 00 00 00 00 00 09") ++ guarded 0xD0 "03 40 E1 20" "01 00")
+    (opened 0x00)
+    (hex "01 01 00 02 F1 D0" gives hex "00 00 00 18 20 16 C0 01 01 C4 02 00 04 C5 02 00 03 D0 03 40 E1 20 D1 01 00 D3 01 00" ∷
+    hex "02 01 00 12 F1 D0 20 0E C0 01 01 D0 03 40 E1 20 D1 01 00 D3 01 00" gives done-empty ∷
+    hex "01 01 00 02 F1 D0" gives hex "00 00 00 18 20 16 C0 01 01 C4 02 00 04 C5 02 00 03 D0 03 40 E1 20 D1 01 00 D3 01 00" ∷
+    hex "01 00 00 06 E1 20 00 00 00 04" gives hex "00 00 00 04 00 00 00 01" ∷
+    hex "02 01 00 09 F1 D0 20 05 D0 03 40 E1 21" gives done-empty ∷
+    hex "02 00 00 05 F1 D0 00 00 01" gives done-empty ∷
+    hex "01 00 00 06 E1 20 00 00 00 04" gives hex "00 00 00 04 00 00 00 02" ∷
+    hex "01 00 00 06 E1 21 00 00 00 04" gives hex "00 00 00 04 00 00 00 01" ∷ [])
     (opened 0x00) ∷ []

@@ -1,6 +1,6 @@
 -- Life cycles and access expressions: their form, their bytes, their limits. When they hold is in Access.
-use Prim.Native.Nat.{ℕ, _+_, _/_}
-use mathlib.Core.Bool.{Bool, true, _&&_}
+use Prim.Native.Nat.{ℕ, _+_, _*_, _/_}
+use mathlib.Core.Bool.{Bool, true, _&&_, _||_}
 use mathlib.Core.List.{List, [], _∷_, _++_}
 use mathlib.Core.Option.{Option, none, some}
 use lib.Dec.{eqb, leb}
@@ -14,7 +14,8 @@ is-state n = among (0x01 ∷ 0x03 ∷ 0x07 ∷ 0x0F ∷ []) n
 unfoldable pub may-become : ℕ → ℕ → Bool
 may-become now next = is-state next && leb now next
 
--- A single condition is three bytes: 70 LcsG, E0 LcsA or E1 LcsO; then FA equal, FB greater, FC less; then a state.
+-- A single condition is three bytes: 70 LcsG, E0 LcsA or E1 LcsO; then FA equal, FB greater, FC less; then a state. Or 40 and the number of an
+-- up counter, most significant byte first.
 pub record Condition : Type 0 where
   pub subject : ℕ
   pub relation : ℕ
@@ -57,8 +58,17 @@ expression-bytes (when gs) = groups-bytes gs
 
 -- limits ------------------------------------------------------------------------------------------------------------
 
+-- a condition on a counter, and that counter's number
+unfoldable pub names-counter : Condition → Bool
+names-counter c = eqb (c .subject) 0x40
+
+unfoldable pub counter-number : Condition → ℕ
+counter-number c = 256 * c .relation + c .reference
+
+-- behind 40 any two bytes are well formed
 unfoldable pub condition-allowed : Condition → Bool
 condition-allowed c =
+    names-counter c ||
     all
     (among (0x70 ∷ 0xE0 ∷ 0xE1 ∷ []) (c .subject) ∷
     among (0xFA ∷ 0xFB ∷ 0xFC ∷ []) (c .relation) ∷

@@ -1,7 +1,7 @@
 -- When the element says no, in this order: the steps 2 to 13. Step 1 and the flush are in Step.
 use Prim.Native.Nat.{ℕ, _+_}
 use mathlib.Core.Bool.{Bool, true, false, not, _&&_, _||_}
-use mathlib.Core.List.{List}
+use mathlib.Core.List.{List, []}
 use mathlib.Core.Option.{Option, none, some}
 use lib.Dec.{eqb, ltb}
 use lib.ListN.{length}
@@ -18,7 +18,7 @@ use Rattle.rules.specs.Expression.{is-state}
 use Rattle.rules.specs.Object.{Object}
 use Rattle.rules.specs.Session.{with-opened}
 use Rattle.rules.specs.Chain.{_refused_or_, _and-then_}
-use Rattle.rules.specs.Access.{Seen, named, granted}
+use Rattle.rules.specs.Access.{Seen, named, access}
 use Rattle.rules.specs.Operation.{Operation, operation, setting-session}
 
 -- the conditions of the steps 2 to 8 ------------------------------------------------------------------------------------
@@ -68,22 +68,26 @@ early sound c s =
 pub record Ruling : Type 0 where
   pub verdict : Verdict
   pub does : Operation
+  -- the counters that it uses up
+  pub counters : List ℕ
 
 -- with the object that the command names
 unfoldable pub ruling-on : Action → List ℕ → Option Object → Seen → Ruling
-ruling-on a c none see = record { verdict = Refused InvalidObject; does = setting-session (see .session) }  -- 9: 01
+ruling-on a c none see = record { verdict = Refused InvalidObject; does = setting-session (see .session); counters = [] }  -- 9: 01
 ruling-on a c (some o) see =
+    let g = access a o see in
     let p = operation a c o see in
     record {
       verdict =
-          not (granted a o see) refused AccessDenied or  -- 10: 07
+          not (g .granted) refused AccessDenied or  -- 10: 07
           p .verdict;  -- 11 and 12
       does = p;
+      counters = g .counters;
     }
 
 -- a row that names no object
 unfoldable pub ruling-of : Session → Ruling
-ruling-of s = record { verdict = Accepted; does = setting-session s }
+ruling-of s = record { verdict = Accepted; does = setting-session s; counters = [] }
 
 -- Open and close answer with no data. The last error survives opening and closing.
 unfoldable pub ruling : Row → List ℕ → Seen → Ruling

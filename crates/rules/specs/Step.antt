@@ -14,9 +14,8 @@ use Rattle.rules.specs.Response.{code, done-response, refused-response, 
 use Rattle.rules.specs.Object.{Object}
 use Rattle.rules.specs.Layout.{pack, unpack, replaced}
 use Rattle.rules.specs.Session.{with-error}
-use Rattle.rules.specs.Access.{seen}
-use Rattle.rules.specs.Operation.{Operation}
-use Rattle.rules.specs.Refusals.{ruling, verdict}
+use Rattle.rules.specs.Access.{seen, all-used-up}
+use Rattle.rules.specs.Refusals.{Ruling, ruling, verdict}
 
 -- what stands after a command
 pub record After : Type 0 where
@@ -37,26 +36,31 @@ unfoldable pub replacing : Option Object → List Object → List Object
 replacing none os = os
 replacing (some o) os = replaced o os
 
-unfoldable pub performed : Operation → List ℕ → List Object → After
-performed p room os =
+-- the objects after a command: its own change, then the counters that it uses up
+unfoldable pub objects-after : Ruling → List Object → List Object
+objects-after r os = all-used-up (r .counters) (replacing (r .does .stores) os)
+
+unfoldable pub performed : Ruling → List ℕ → List Object → After
+performed r room os =
+    let p = r .does in
     record {
       outcome = 0;
       room = put-in-front (done-response (p .answer)) room;
-      store = pack (replacing (p .stores) os);
+      store = pack (objects-after r os);
       session = p .session;
     }
 
 -- what comes of a verdict
-unfoldable pub answered : Verdict → Operation → List ℕ → List ℕ → List Object → Session → After
-answered (Refused r) p room store os s = declined r room store s
-answered Accepted p room store os s = performed p room os
+unfoldable pub answered : Verdict → Ruling → List ℕ → List ℕ → List Object → Session → After
+answered (Refused n) r room store os s = declined n room store s
+answered Accepted r room store os s = performed r room os
 
 -- steps 2 to 13; `objects`: those of the store, none where it is malformed
 unfoldable pub judged : List ℕ → List ℕ → List ℕ → Option (List Object) → Session → After
 judged c room store objects s =
     let os = or-else objects [] in
     let see = seen os s in
-    answered (verdict (is-some objects) c (length room) see) (ruling (row c) c see .does) room store os s
+    answered (verdict (is-some objects) c (length room) see) (ruling (row c) c see) room store os s
 
 -- If the top bit of Cmd is set, the last error becomes 0 before any other judgment.
 unfoldable pub flushed : List ℕ → Session → Session

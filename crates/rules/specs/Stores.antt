@@ -47,6 +47,13 @@ up-counter k content = by-hand (hex "68 00 02 00" ++ k ∷ hex "E1 08 00 08 00 0
 unfoldable pub down-counter : ℕ → List ℕ → List ℕ
 down-counter k content = by-hand (hex "68 00 04 00" ++ k ∷ hex "E1 08 00 08 00 01 00") "01 00" "01 00" "01 00" content
 
+-- data of which three bytes of four are used, and a counter that counts up of these 8 bytes, under the number's low byte: changed and read on these
+unfoldable pub guarded : ℕ → String → String → List ℕ
+guarded k change read = by-hand (hex "64 00 01 00" ++ k ∷ hex "F1 04 00 03 00 01 00") change read "01 00" (hex "0A 0B 0C 00")
+
+unfoldable pub guarded-counter : ℕ → String → String → List ℕ → List ℕ
+guarded-counter k change read content = by-hand (hex "68 00 02 00" ++ k ∷ hex "E1 08 00 08 00 01 00") change read "01 00" content
+
 -- n records, numbered from k on
 unfoldable pub many : (ℕ → List ℕ) → ℕ → ℕ → List ℕ
 many r zero k = []

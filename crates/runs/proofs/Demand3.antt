@@ -66,7 +66,7 @@ run-is-calls u h {ts} {k} g = rw (run-by-rules u h g) (every-list-called ts k)
 
 -- three runs of the rules, side by side -----------------------------------------------------------------------------------------
 
-alike : {xs ys zs : List Turn} (m : Mix xs ys zs) (k : Kept) → TwoLists xs ys → (mix here there : Ran)
+alike : {xs ys zs : List Turn} (m : Mix xs ys zs) (k : Kept) → TwoLists xs ys k → (mix here there : Ran)
     → mix ≡ run zs k → here ≡ run (xs ++ ys) k → there ≡ run (ys ++ xs) k → SideBySide m k mix here there
 unfolding run
 alike {xs} {ys} {zs} m k two mix here there p q r =
@@ -74,13 +74,13 @@ alike {xs} {ys} {zs} m k two mix here there p q r =
     rw (p, q, r) search
 
 -- Demand 3 of any host that calls `execute` itself: for any two lists as the demand takes them, every mix of them, and any beginning
-pub calls-mix : {xs ys zs : List Turn} (m : Mix xs ys zs) (k : Kept) → TwoLists xs ys
+pub calls-mix : {xs ys zs : List Turn} (m : Mix xs ys zs) (k : Kept) → TwoLists xs ys k
     → {mix here there : Ran} → Calls zs k mix → Calls (xs ++ ys) k here → Calls (ys ++ xs) k there
     → SideBySide m k mix here there
 calls-mix m k two {mix} {here} {there} a b c = alike m k two mix here there (calls-by-rules a) (calls-by-rules b) (calls-by-rules c)
 
 -- and of the library's `run`, which makes such calls
-pub runs-mix : {xs ys zs : List Turn} (m : Mix xs ys zs) (k : Kept) → TwoLists xs ys
+pub runs-mix : {xs ys zs : List Turn} (m : Mix xs ys zs) (k : Kept) → TwoLists xs ys k
     → (mix here there : LibraryRun) → IsRun mix → IsRun here → IsRun there
     → Given zs k (mix .lent) → Given (xs ++ ys) k (here .lent) → Given (ys ++ xs) k (there .lent)
     → SideBySide m k (ran mix) (ran here) (ran there)

@@ -76,7 +76,7 @@ pub record ThreeRuns (mix here there : LibraryRun) : Type 0 where
   pub mix-is-run : IsRun mix
   pub here-is-run : IsRun here
   pub there-is-run : IsRun there
-  pub side-by-side : {xs ys zs : List Turn} (m : Mix xs ys zs) (k : Kept) → TwoLists xs ys
+  pub side-by-side : {xs ys zs : List Turn} (m : Mix xs ys zs) (k : Kept) → TwoLists xs ys k
       → Given zs k (mix .lent) → Given (xs ++ ys) k (here .lent) → Given (ys ++ xs) k (there .lent)
       → SideBySide m k (ran mix) (ran here) (ran there)
 

@@ -1,4 +1,5 @@
--- A case for each sentence, row and cell of document 01, and for each about counters, follows from the rules: antt computes the tables.
+-- A case for each sentence, row and cell of document 01, and for each about counters and the conditions that use them up, follows from the rules:
+-- antt computes the tables.
 use mathlib.Core.Bool.{Bool, true}
 use mathlib.Core.List.{List}
 use mathlib.Core.Path.{_≡_, refl}
@@ -6,10 +7,11 @@ use Rattle.rules.specs.Cases.{Case, all-right}
 use Rattle.rules.proofs.Bench.{computed}
 use Rattle.sentences.specs.Sentences.{text-line, command-cases, form-cases, row-cases, object-cases, expression-cases, store-cases, size-cases, factory-cases, session-cases, data-cases, metadata-cases, program-cases}
 use Rattle.sentences.specs.Counters.{trips, rides, of-kind, counter-record-cases, locked, unreadable, count-cases, counter-write-cases}
+use Rattle.sentences.specs.Conditions.{slotted, condition-form-cases, usable-beside, unusable-beside, numbered, condition-holds-cases, counter, tallies, moves, stays, deciding-cases, thrice, thrice-counter, uses, plain, use-cases, once, refused-cases, own, own-after, own-cases, steps, sealed, step-cases, stored-expression-cases}
 
 -- `unfolding tabled` opens every rule and every table
 tabled : List Case → Bool
-unfolding computed text-line command-cases form-cases row-cases object-cases expression-cases store-cases size-cases factory-cases session-cases data-cases metadata-cases program-cases trips rides of-kind counter-record-cases locked unreadable count-cases counter-write-cases
+unfolding computed text-line command-cases form-cases row-cases object-cases expression-cases store-cases size-cases factory-cases session-cases data-cases metadata-cases program-cases trips rides of-kind counter-record-cases locked unreadable count-cases counter-write-cases slotted condition-form-cases usable-beside unusable-beside numbered condition-holds-cases counter tallies moves stays deciding-cases thrice thrice-counter uses plain use-cases once refused-cases own own-after own-cases steps sealed step-cases stored-expression-cases
 tabled cs = all-right cs
 
 -- Command and response bytes
@@ -86,3 +88,43 @@ count-sentences = refl
 pub counter-write-sentences : all-right counter-write-cases ≡ true
 unfolding tabled
 counter-write-sentences = refl
+
+-- conditions that use up a counter: their form
+pub condition-form-sentences : all-right condition-form-cases ≡ true
+unfolding tabled
+condition-form-sentences = refl
+
+-- when they hold
+pub condition-holds-sentences : all-right condition-holds-cases ≡ true
+unfolding tabled
+condition-holds-sentences = refl
+
+-- the deciding group
+pub deciding-sentences : all-right deciding-cases ≡ true
+unfolding tabled
+deciding-sentences = refl
+
+-- which command uses which
+pub use-sentences : all-right use-cases ≡ true
+unfolding tabled
+use-sentences = refl
+
+-- what is refused moves nothing
+pub refused-sentences : all-right refused-cases ≡ true
+unfolding tabled
+refused-sentences = refl
+
+-- a counter on its own condition
+pub own-sentences : all-right own-cases ≡ true
+unfolding tabled
+own-sentences = refl
+
+-- its step
+pub step-sentences : all-right step-cases ≡ true
+unfolding tabled
+step-sentences = refl
+
+-- the stored expression, the send-back case, and a list
+pub stored-expression-sentences : all-right stored-expression-cases ≡ true
+unfolding tabled
+stored-expression-sentences = refl

@@ -1,2 +1,3 @@
 pub mod Sentences
 pub mod Counters
+pub mod Conditions

@@ -252,7 +252,7 @@ unfoldable pub expression-cases : List Case
 expression-cases =
     -- a condition's three bytes: LcsG, LcsA or LcsO; equal, greater or less; one of the four states
     written (hex "70 FA 01") true ∷ written (hex "E0 FB 03") true ∷ written (hex "E1 FC 07") true ∷ written (hex "E1 FA 0F") true ∷
-    written (hex "40 FA 01") false ∷ written (hex "71 FA 01") false ∷ written (hex "E2 FA 01") false ∷ written (hex "E0 F9 01") false ∷
+    written (hex "60 FA 01") false ∷ written (hex "71 FA 01") false ∷ written (hex "E2 FA 01") false ∷ written (hex "E0 F9 01") false ∷
     written (hex "E0 FD 01") false ∷ written (hex "E1 FA 00") false ∷ written (hex "E1 FA 02") false ∷ written (hex "E1 FA 04") false ∷
     written (hex "E1 FA 08") false ∷ written (hex "E1 FA 1F") false ∷
     -- whose state it asks

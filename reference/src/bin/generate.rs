@@ -1,4 +1,4 @@
-//! Writes generated cases and lists, and shows what the cases cover.
+//! Writes generated cases, lists and mixes, and shows what the cases cover.
 
 use std::env;
 use std::io::{self, BufWriter, Write};
@@ -7,9 +7,11 @@ use std::process::ExitCode;
 use reference::coverage::cover;
 use reference::generator::cases::{cases, Case};
 use reference::generator::lists::list;
+use reference::generator::mixes::pair;
 
 const USAGE: &str = "usage: generate cases SEED COUNT
        generate lists SEED INDEX
+       generate mixes SEED COUNT
        generate coverage SEED COUNT";
 
 fn main() -> ExitCode {
@@ -21,6 +23,7 @@ fn main() -> ExitCode {
     let written = match mode {
         "cases" => write_cases(seed, number),
         "lists" => write_list(seed, number),
+        "mixes" => write_mixes(seed, number),
         "coverage" => return show_coverage(seed, number),
         _ => {
             eprintln!("{USAGE}");
@@ -53,6 +56,16 @@ fn write_cases(seed: u64, count: u64) -> io::Result<()> {
 fn write_list(seed: u64, index: u64) -> io::Result<()> {
     let mut output = io::stdout().lock();
     output.write_all(&list(seed, index))?;
+    output.flush()
+}
+
+fn write_mixes(seed: u64, count: u64) -> io::Result<()> {
+    let mut output = BufWriter::with_capacity(1 << 16, io::stdout().lock());
+    for index in 0..count {
+        for item in pair(seed, index).items() {
+            item.write(&mut output)?;
+        }
+    }
     output.flush()
 }
 

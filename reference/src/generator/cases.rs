@@ -3,10 +3,12 @@
 use crate::factory::{make_factory_store, FACTORY_SIZE};
 use crate::generator::commands::{Commands, Generated};
 use crate::generator::contents::Content;
+use crate::generator::names::names_counter;
 use crate::generator::random::Random;
 use crate::generator::stores::{odd_session, valid_store, working_session, Damage};
 use crate::replay::{Item, State};
 use crate::session::TERMINATION;
+use crate::store;
 
 /// A generated item, with what it was made to be.
 #[derive(Clone, Debug)]
@@ -85,7 +87,7 @@ impl Maker {
             Beginning::Valid => {
                 let store = valid_store(&mut self.random);
                 self.begin_valid(store, take)?;
-                self.random.between(10, 70)
+                self.length_of_run()
             }
             Beginning::OddSession => {
                 let store = valid_store(&mut self.random);
@@ -113,6 +115,15 @@ impl Maker {
             take(Item::Bytes.into())?;
         }
         Ok(())
+    }
+
+    /// How many commands follow a valid store: often more where counters can run out.
+    fn length_of_run(&mut self) -> usize {
+        let mut records = store::records(&self.state.store);
+        match records.any(|(_, record)| names_counter(record)) && self.random.chance(70) {
+            true => self.random.between(70, 150),
+            false => self.random.between(10, 70),
+        }
     }
 
     fn put_store<E>(

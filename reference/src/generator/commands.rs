@@ -1,8 +1,11 @@
 //! Commands of every row and their rooms, aimed at the present store and session.
 
-use crate::counter::{self, Counter};
+use crate::counter::{self, Counter, Direction};
 use crate::engine::{Row, CLOSE, FLUSH, GET, HEADER, IDENTIFIER, LONGEST_COMMAND, OPEN, SET};
+use crate::expression::CounterSet;
 use crate::generator::contents::Content;
+use crate::generator::counting::near_counter;
+use crate::generator::names::{names_counter, names_counter_in, Names};
 use crate::generator::random::Random;
 use crate::generator::stores::{not_a_state, object_number, random_counter};
 use crate::metadata;
@@ -115,13 +118,36 @@ impl Commands {
     /// A command for the present state, with its room.
     /// The store is looked at only if it is well formed.
     pub fn make(&mut self, state: &State, random: &mut Random) -> Generated {
-        let view = View::new(state);
-        let kind = pick_kind(&view, random);
+        let view = View::new(state, random);
+        self.make_for(&view, random)
+    }
+
+    /// As `make`, mostly at the wanted objects; conditions sent name some of the names.
+    pub fn make_aimed(
+        &mut self,
+        state: &State,
+        wanted: impl Fn(u16) -> bool,
+        names: &Names,
+        random: &mut Random,
+    ) -> Generated {
+        let mut records = records_of(state);
+        records.retain(|record| wanted(record.object().0));
+        let names = names.clone();
+        let view = View {
+            state,
+            records,
+            names,
+        };
+        self.make_for(&view, random)
+    }
+
+    fn make_for(&mut self, view: &View<'_>, random: &mut Random) -> Generated {
+        let kind = pick_kind(view, random);
         let Made {
             mut command,
             content,
             answer,
-        } = self.make_kind(kind, &view, random);
+        } = self.make_kind(kind, view, random);
         if random.chance(8) {
             wrong_frame(&mut command, random);
         }
@@ -178,7 +204,11 @@ impl Commands {
         let content = match target {
             Target::Stored(record) => {
                 let content = self.next_content(record, random);
-                in_data.extend(content.make(record, random));
+                let names = match record.counter() {
+                    Some(_) => view.names.with_own(record.object().0),
+                    None => view.names.clone(),
+                };
+                in_data.extend(content.make(record, &names, random));
                 Some(content)
             }
             _ => {
@@ -221,8 +251,12 @@ fn pick_kind(view: &View<'_>, random: &mut Random) -> Kind {
     }
 }
 
-/// A kind of command; without a counter, fewer counts.
+/// A kind of command; without a counter, fewer counts; where conditions use up
+/// counters, all that expressions grant about alike.
 fn pick_judged_kind(view: &View<'_>, random: &mut Random) -> Kind {
+    if !view.names.is_empty() && random.chance(30) {
+        return Kind::Row(random.pick(&[Row::Write, Row::EraseAndWrite, Row::Count]));
+    }
     match random.pick_weighted(&KINDS) {
         Kind::Row(Row::Count) if !view.has_counter() && random.chance(70) => {
             random.pick_weighted(&KINDS)
@@ -248,19 +282,35 @@ impl Target<'_> {
     }
 }
 
-/// The records of the present state, none if the store is malformed.
+/// The records that commands are aimed at.
 struct View<'s> {
     state: &'s State,
     records: Vec<Record<'s>>,
+    /// What conditions sent to it name.
+    names: Names,
+}
+
+/// All records, none if the store is malformed.
+fn records_of(state: &State) -> Vec<Record<'_>> {
+    match store::check_store(&state.store) {
+        true => store::records(&state.store).map(|found| found.1).collect(),
+        false => Vec::new(),
+    }
 }
 
 impl<'s> View<'s> {
-    fn new(state: &'s State) -> View<'s> {
-        let records = match store::check_store(&state.store) {
-            true => store::records(&state.store).map(|found| found.1).collect(),
-            false => Vec::new(),
+    fn new(state: &'s State, random: &mut Random) -> View<'s> {
+        let records = records_of(state);
+        let uses_counters = records.iter().any(|&record| names_counter(record));
+        let names = match uses_counters || random.chance(6) {
+            true => Names::of_records(&records, random),
+            false => Names::none(),
         };
-        View { state, records }
+        View {
+            state,
+            records,
+            names,
+        }
     }
 
     fn target(&self, random: &mut Random) -> Target<'s> {
@@ -271,15 +321,67 @@ impl<'s> View<'s> {
         }
     }
 
+    /// Where conditions use up counters, mostly an object whose slot has some: one
+    /// whose counters would move, one that refuses, or any.
+    fn naming_target(&self, slot: Slot, random: &mut Random) -> Option<Target<'s>> {
+        if self.names.is_empty() || random.chance(20) {
+            return None;
+        }
+        let grants = |record: &Record<'_>| {
+            let judged = self.judge(*record, slot);
+            judged.is_some_and(|counters| !counters.numbers().is_empty())
+        };
+        let has_names = |record: &Record<'_>| names_counter_in(*record, slot);
+        let refuses = |record: &Record<'_>| has_names(record) && !self.is_granted(*record, slot);
+        let picked = match random.below(20) {
+            0..=12 => self.pick_record(grants, random),
+            13..=16 => self.pick_record(refuses, random),
+            _ => self.pick_record(has_names, random),
+        };
+        picked.map(Target::Stored)
+    }
+
+    /// At times a counter that its own change expression would use up.
+    fn own_target(&self, random: &mut Random) -> Option<Target<'s>> {
+        if self.names.is_empty() || random.chance(70) {
+            return None;
+        }
+        let uses_own = |record: &Record<'_>| {
+            let judged = self.judge(*record, Slot::Change);
+            judged.is_some_and(|counters| counters.numbers().contains(&record.object()))
+        };
+        let picked = self.pick_record(uses_own, random);
+        picked.map(Target::Stored)
+    }
+
+    /// At times an up counter without a step left that may be written anew.
+    fn spent_target(&self, random: &mut Random) -> Option<Target<'s>> {
+        if self.names.is_empty() || random.chance(75) {
+            return None;
+        }
+        let is_spent = |record: &Record<'_>| {
+            let spent = record.counter().is_some_and(Counter::is_reached);
+            spent && self.is_granted(*record, Slot::Change)
+        };
+        let picked = self.pick_record(is_spent, random);
+        picked.map(Target::Stored)
+    }
+
     /// A target whose data can often be changed.
     fn target_to_change(&self, random: &mut Random) -> Target<'s> {
-        let granted = |record: &Record<'_>| record.grants(Slot::Change, self.state.session);
+        if let Some(target) = self.naming_target(Slot::Change, random) {
+            return target;
+        }
+        let granted = |record: &Record<'_>| self.is_granted(*record, Slot::Change);
         self.preferred_target(granted, random)
     }
 
     /// A target whose data can often be read, at times a counter or an object of the session.
     fn target_to_read(&self, random: &mut Random) -> Target<'s> {
-        let granted = |record: &Record<'_>| record.grants(Slot::Read, self.state.session);
+        if let Some(target) = self.naming_target(Slot::Read, random) {
+            return target;
+        }
+        let granted = |record: &Record<'_>| self.is_granted(*record, Slot::Read);
         let counts = |record: &Record<'_>| record.counter().is_some() && granted(record);
         let has_data = |record: &Record<'_>| record.used() > 0 && granted(record);
         match random.below(100) {
@@ -314,6 +416,9 @@ impl<'s> View<'s> {
 
     /// A target that often has the size of a counter, and often is one that can be counted.
     fn target_to_count(&self, random: &mut Random) -> Target<'s> {
+        if let Some(target) = self.own_target(random) {
+            return target;
+        }
         let mut records = self.records.clone();
         match random.chance(50) {
             true => records.retain(|&record| self.can_be_counted(record)),
@@ -329,7 +434,16 @@ impl<'s> View<'s> {
         let goes_on = record
             .counter()
             .is_some_and(|counter| !counter.is_reached());
-        goes_on && record.grants(Slot::Change, self.state.session)
+        goes_on && self.is_granted(record, Slot::Change)
+    }
+
+    fn judge(&self, record: Record<'_>, slot: Slot) -> Option<CounterSet> {
+        let State { store, session } = self.state;
+        record.judge(slot, *session, store)
+    }
+
+    fn is_granted(&self, record: Record<'_>, slot: Slot) -> bool {
+        self.judge(record, slot).is_some()
     }
 
     fn has_counter(&self) -> bool {
@@ -524,14 +638,17 @@ fn boundary_length(offset: usize, used: usize, maximum: usize, random: &mut Rand
 }
 
 fn write(param: u8, view: &View<'_>, random: &mut Random) -> Vec<u8> {
-    let target = match random.chance(30) {
-        true => view.target_to_count(random),
-        false => view.target_to_change(random),
-    };
+    let target = view
+        .own_target(random)
+        .or_else(|| view.spent_target(random))
+        .unwrap_or_else(|| match random.chance(30) {
+            true => view.target_to_count(random),
+            false => view.target_to_change(random),
+        });
     let mut in_data = target.number().to_be_bytes().to_vec();
     let (offset, bytes) = match target {
         Target::Stored(record) => match record.counter() {
-            Some(counter) => counter_write(counter, random),
+            Some(counter) => counter_write(counter, !view.names.is_empty(), random),
             None => stored_write(record.used(), record.maximum(), random),
         },
         Target::Session(object) => session_write(view.state, object, random),
@@ -577,10 +694,14 @@ fn stored_write(used: usize, maximum: usize, random: &mut Random) -> (usize, Vec
     (offset, bytes)
 }
 
-/// All of a counter's data, or a write that does not fit it.
-fn counter_write(present: Counter, random: &mut Random) -> (usize, Vec<u8>) {
-    if random.chance(60) {
-        let next = random_counter(present.direction, random);
+/// All of a counter's data, or a write that does not fit it. An up counter that
+/// conditions may use up is often left near its threshold.
+fn counter_write(present: Counter, is_used: bool, random: &mut Random) -> (usize, Vec<u8>) {
+    if random.chance(if is_used { 80 } else { 60 }) {
+        let next = match present.direction {
+            Direction::Up if is_used && random.chance(80) => near_counter(random),
+            direction => random_counter(direction, random),
+        };
         return (0, next.to_data().to_vec());
     }
     let (offset, length) = match random.below(4) {

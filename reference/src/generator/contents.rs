@@ -2,6 +2,7 @@
 
 use crate::expression::ALWAYS;
 use crate::generator::expressions::{expression, BadExpression};
+use crate::generator::names::Names;
 use crate::generator::random::Random;
 use crate::generator::stores::not_a_state;
 use crate::metadata::{tag_of, CHANGE, EXECUTE, LCSO, MAXIMUM, METADATA, READ, USED};
@@ -69,15 +70,16 @@ impl Content {
         )
     }
 
-    /// The bytes after the object, for an object whose record is given.
-    pub fn make(self, record: Record<'_>, random: &mut Random) -> Vec<u8> {
+    /// The bytes after the object, for an object whose record is given; the
+    /// expressions sent may name some of the names.
+    pub fn make(self, record: Record<'_>, names: &Names, random: &mut Random) -> Vec<u8> {
         let present = record.lcso();
         match self {
-            Content::Good => led(&join(&good_tags(present, random))),
+            Content::Good => led(&join(&good_tags(present, names, random))),
             Content::SendBack => led(&join(&tags_of(record))),
-            Content::LongestExpressions => led(&join(&longest_tags(random))),
+            Content::LongestExpressions => led(&join(&longest_tags(names, random))),
             Content::WrongTwenty => {
-                let mut sent = led(&join(&good_tags(present, random)));
+                let mut sent = led(&join(&good_tags(present, names, random)));
                 sent[0] = match random.chance(50) {
                     true => random.pick(&[0x00, 0x21, 0x02, 0xC0, 0xA0]),
                     false => random.byte_outside(&[METADATA]),
@@ -85,12 +87,12 @@ impl Content {
                 sent
             }
             Content::LengthAbove => {
-                let mut sent = led(&join(&good_tags(present, random)));
+                let mut sent = led(&join(&good_tags(present, names, random)));
                 sent[1] += 1;
                 sent
             }
             Content::LengthBelow => {
-                let mut sent = led(&join(&good_tags(present, random)));
+                let mut sent = led(&join(&good_tags(present, names, random)));
                 sent[1] = match random.chance(70) {
                     true => sent[1] - 1,
                     false => 0,
@@ -98,14 +100,14 @@ impl Content {
                 sent
             }
             Content::LengthModulo256 => {
-                let mut sent = led(&join(&good_tags(present, random)));
+                let mut sent = led(&join(&good_tags(present, names, random)));
                 sent.extend_from_slice(&random.bytes(256));
                 sent
             }
             Content::Empty => led(&[]),
             Content::LifeCycleFalls => led(&join(&[life_cycle(lower_state(present, random))])),
             Content::LifeCycleNoState => {
-                let mut tags = good_tags(present, random);
+                let mut tags = good_tags(present, names, random);
                 tags.retain(|tag| tag[0] != LCSO);
                 tags.insert(0, life_cycle(not_a_state(random)));
                 led(&join(&tags))
@@ -115,7 +117,7 @@ impl Content {
                 led(&tagged(LCSO, &bytes))
             }
             Content::ValueCutShort => {
-                let mut content = join(&good_tags(present, random));
+                let mut content = join(&good_tags(present, names, random));
                 content.pop();
                 led(&content)
             }
@@ -142,20 +144,20 @@ impl Content {
                 led(&with_tag(USED, &value, random))
             }
             Content::TagsFalling => {
-                let mut tags = many_tags(present, random);
+                let mut tags = many_tags(present, names, random);
                 let place = random.below(tags.len() - 1);
                 tags.swap(place, place + 1);
                 led(&join(&tags))
             }
             Content::TagRepeated => {
-                let mut tags = many_tags(present, random);
+                let mut tags = many_tags(present, names, random);
                 let place = random.below(tags.len());
                 let again = tags[place].clone();
                 tags.insert(place + 1, again);
                 led(&join(&tags))
             }
             Content::BadLastExpression => {
-                let mut tags = many_tags(present, random);
+                let mut tags = many_tags(present, names, random);
                 let last = tags.len() - 1;
                 let bad = random.pick(&BadExpression::ALL).make(random);
                 tags[last] = tagged(tags[last][0], &bad);
@@ -198,9 +200,9 @@ fn tags_of(record: Record<'_>) -> Vec<Vec<u8>> {
 }
 
 /// Some of the allowed tags, with allowed values.
-fn good_tags(present: u8, random: &mut Random) -> Vec<Vec<u8>> {
+fn good_tags(present: u8, names: &Names, random: &mut Random) -> Vec<Vec<u8>> {
     let chosen = random.between(1, 15);
-    let mut tags = all_tags(present, random);
+    let mut tags = all_tags(present, names, random);
     let mut place = 0;
     tags.retain(|_| {
         place += 1;
@@ -210,34 +212,34 @@ fn good_tags(present: u8, random: &mut Random) -> Vec<Vec<u8>> {
 }
 
 /// At least two of the allowed tags.
-fn many_tags(present: u8, random: &mut Random) -> Vec<Vec<u8>> {
-    let mut tags = all_tags(present, random);
+fn many_tags(present: u8, names: &Names, random: &mut Random) -> Vec<Vec<u8>> {
+    let mut tags = all_tags(present, names, random);
     while tags.len() > 2 && random.chance(40) {
         tags.remove(random.below(tags.len()));
     }
     tags
 }
 
-fn all_tags(present: u8, random: &mut Random) -> Vec<Vec<u8>> {
+fn all_tags(present: u8, names: &Names, random: &mut Random) -> Vec<Vec<u8>> {
     let change = match random.chance(50) {
         true => vec![ALWAYS],
-        false => expression(random),
+        false => expression(names, random),
     };
     vec![
         life_cycle(later_state(present, random)),
         tagged(CHANGE, &change),
-        tagged(READ, &expression(random)),
-        tagged(EXECUTE, &expression(random)),
+        tagged(READ, &expression(names, random)),
+        tagged(EXECUTE, &expression(names, random)),
     ]
 }
 
 /// Expressions of 27 bytes.
-fn longest_tags(random: &mut Random) -> Vec<Vec<u8>> {
+fn longest_tags(names: &Names, random: &mut Random) -> Vec<Vec<u8>> {
     let mut tags: Vec<Vec<u8>> = Vec::new();
     for slot in Slot::ALL {
         let mut longest = Vec::new();
         while longest.len() != crate::expression::LONGEST {
-            longest = expression(random);
+            longest = expression(names, random);
         }
         tags.push(tagged(tag_of(slot), &longest));
     }

@@ -1,9 +1,12 @@
-//! Seeded generation of cases and lists. The same seed gives the same bytes.
+//! Seeded generation of cases, lists and mixes. The same seed gives the same bytes.
 
 pub mod cases;
 pub mod commands;
 pub mod contents;
+pub mod counting;
 pub mod expressions;
 pub mod lists;
+pub mod mixes;
+pub mod names;
 pub mod random;
 pub mod stores;

@@ -4,7 +4,9 @@ use std::fmt;
 
 use crate::counter::{self, Counter, Direction};
 use crate::engine;
+use crate::generator::counting::counting_objects;
 use crate::generator::expressions::{expression, BadExpression};
+use crate::generator::names::Names;
 use crate::generator::random::Random;
 use crate::kinds::ObjectNumber;
 use crate::session::{Session, SessionObject, STATES};
@@ -20,14 +22,14 @@ const COUNTER_RECORD: usize = DATA + counter::SIZE;
 
 /// An object before it is put into a store.
 #[derive(Clone, Debug)]
-struct Object {
-    kind: RecordKind,
-    number: u16,
-    maximum: usize,
-    lcso: u8,
-    expressions: [Vec<u8>; 3],
+pub(super) struct Object {
+    pub(super) kind: RecordKind,
+    pub(super) number: u16,
+    pub(super) maximum: usize,
+    pub(super) lcso: u8,
+    pub(super) expressions: [Vec<u8>; 3],
     /// The used bytes.
-    data: Vec<u8>,
+    pub(super) data: Vec<u8>,
 }
 
 impl Object {
@@ -40,14 +42,18 @@ impl Object {
         };
         let change = match random.chance(40) {
             true => vec![crate::expression::ALWAYS],
-            false => expression(random),
+            false => expression(&Names::none(), random),
         };
         Object {
             kind: RecordKind::Data,
             number,
             maximum,
             lcso: random.pick(&STATES),
-            expressions: [change, expression(random), expression(random)],
+            expressions: [
+                change,
+                expression(&Names::none(), random),
+                expression(&Names::none(), random),
+            ],
             data: random.bytes(used),
         }
     }
@@ -86,7 +92,7 @@ impl Object {
     }
 }
 
-fn join(objects: &[Object]) -> Vec<u8> {
+pub(super) fn join(objects: &[Object]) -> Vec<u8> {
     let mut store = Vec::new();
     for object in objects {
         object.put_into(&mut store);
@@ -99,7 +105,11 @@ pub fn valid_store(random: &mut Random) -> Vec<u8> {
     join(&valid_objects(random))
 }
 
+/// Objects of such a store; in a quarter of them conditions use up counters.
 fn valid_objects(random: &mut Random) -> Vec<Object> {
+    if random.chance(25) {
+        return counting_objects(random);
+    }
     let sizes = match random.below(20) {
         0 => full_store_sizes(random),
         _ => store_sizes(random),
@@ -117,7 +127,7 @@ fn make_objects(numbers: &[u16], sizes: &[usize], random: &mut Random) -> Vec<Ob
 }
 
 /// An object of this maximum; where it can be a counter, it mostly is one.
-fn make_object(number: u16, maximum: usize, random: &mut Random) -> Object {
+pub(super) fn make_object(number: u16, maximum: usize, random: &mut Random) -> Object {
     if maximum == counter::SIZE && random.chance(80) {
         let direction = random.pick(&Direction::ALL);
         return Object::counter(number, direction, random);
@@ -242,7 +252,7 @@ fn object_numbers(count: usize, random: &mut Random) -> Vec<u16> {
     numbers
 }
 
-fn is_session_number(number: u16) -> bool {
+pub(super) fn is_session_number(number: u16) -> bool {
     SessionObject::from_number(ObjectNumber(number)).is_some()
 }
 
@@ -453,7 +463,7 @@ impl Damage {
             Damage::SlotTail(slot) => {
                 let short = &mut object.expressions[slot as usize];
                 while short.len() > 23 {
-                    *short = expression(random);
+                    *short = expression(&Names::none(), random);
                 }
             }
             _ => {}

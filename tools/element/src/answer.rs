@@ -19,10 +19,14 @@ pub struct Exchange {
     pub refused: Option<u8>,
     /// The last error after the command.
     pub last_error: u8,
-    /// The counter that the command names, as the command leaves it.
+    /// The counter that the command names, as the command itself leaves it, before any step of a condition.
     pub counter: Option<Counter>,
     /// The bytes in use of the object that the command names, as the command leaves it.
     pub used: Option<usize>,
+    /// The counters that the conditions of the command's expression moved, by their numbers, as they stand then.
+    pub steps: Vec<(u16, Counter)>,
+    /// Where access is denied, the expression that was asked, if it names counters.
+    pub asked: Option<String>,
 }
 
 impl Exchange {
@@ -68,11 +72,18 @@ impl Exchange {
                 self.refused_in_words(command, number),
                 self.last_error
             ),
-            None => self.done_in_words(command),
+            None => format!("{}{}", self.done_in_words(command), self.steps_in_words()),
         }
     }
 
-    /// Why a count is refused, a write to a counter, or a read past the bytes in use; all else by the refusal's name.
+    fn steps_in_words(&self) -> String {
+        let step = |(number, counter): &(u16, Counter)| {
+            format!("; counter {number:04X} steps to {}", counter.in_words())
+        };
+        self.steps.iter().map(step).collect()
+    }
+
+    /// Why a count is refused, a write to a counter, a read past the bytes in use, or what names a counter; all else by the refusal's name.
     fn refused_in_words(&self, command: &[u8], number: u8) -> String {
         let why = match (command::action(command), number, self.counter) {
             (Some(Action::Count { .. }), 0x03, _) => "this object is no counter".into(),
@@ -90,7 +101,12 @@ impl Exchange {
                 ),
                 None => return refusal(number),
             },
-            _ => return refusal(number),
+            _ => {
+                return match &self.asked {
+                    Some(asked) => format!("{} ({asked})", refusal(number)),
+                    None => refusal(number),
+                }
+            }
         };
         format!("{number:02X}: {why}")
     }
@@ -205,6 +221,8 @@ mod tests {
             last_error: 0x08,
             counter: None,
             used: None,
+            steps: Vec::new(),
+            asked: None,
         };
         let words = exchange.in_words(&[]);
         assert!(words.starts_with("refused 01"), "{words}");
@@ -226,8 +244,54 @@ mod tests {
             last_error: refused.unwrap_or(0),
             counter: Some(Counter { direction, state }),
             used: Some(COUNTER_SIZE),
+            steps: Vec::new(),
+            asked: None,
         };
         exchange.in_words(command)
+    }
+
+    #[test]
+    fn the_steps_of_conditions_are_told_behind_the_answer() {
+        let direction = Direction::Up;
+        let at = |value| {
+            let state = element::Counter {
+                value,
+                threshold: 3,
+            };
+            Counter { direction, state }
+        };
+        let mut exchange = Exchange {
+            outcome: 0,
+            response: vec![0, 0, 0, 2, 0x41, 0x42],
+            refused: None,
+            last_error: 0,
+            counter: None,
+            used: Some(2),
+            steps: vec![(0xE120, at(2)), (0xE123, at(3))],
+            asked: None,
+        };
+        let read = [0x01, 0x00, 0, 6, 0xE1, 0x21, 0, 0, 0, 2];
+        assert_eq!(
+            exchange.in_words(&read),
+            "done: 2 bytes, \"AB\"; counter E120 steps to 2 of 3, 1 to go; counter E123 steps to 3 of 3, at its threshold"
+        );
+        exchange.response = vec![0, 0, 0, 8, 0, 0, 0, 1, 0, 0, 0, 3];
+        exchange.counter = Some(at(1));
+        exchange.steps = vec![(0xE120, at(2))];
+        let own = [0x01, 0x00, 0, 6, 0xE1, 0x20, 0, 0, 0, 8];
+        assert_eq!(
+            exchange.in_words(&own),
+            "done: 1 of 3, 2 to go; counter E120 steps to 2 of 3, 1 to go"
+        );
+        exchange.response = REFUSED.to_vec();
+        exchange.refused = Some(0x07);
+        exchange.last_error = 0x08;
+        exchange.steps.clear();
+        exchange.asked = Some("read: counter E120; E120 is 3 of 3, at its threshold".into());
+        assert_eq!(
+            exchange.in_words(&own),
+            "refused 07: the access condition does not hold (read: counter E120; E120 is 3 of 3, at its threshold) (the last error stays 08)"
+        );
     }
 
     const DONE: [u8; 4] = [0; 4];
@@ -351,6 +415,8 @@ mod tests {
                 last_error: 0x08,
                 counter: None,
                 used,
+                steps: Vec::new(),
+                asked: None,
             };
             exchange.in_words(&read_at_5(0xF1D0, 1))
         };

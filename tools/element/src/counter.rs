@@ -1,7 +1,7 @@
-//! Counters: which way one counts, and how far it is.
+//! Counters: which way one counts, how far it is, and what a condition on it finds.
 use element::kind;
 
-use crate::record::Record;
+use crate::record::{self, Record};
 
 /// Which way a counter counts.
 #[derive(Clone, Copy, Debug, PartialEq, Eq)]
@@ -73,6 +73,18 @@ impl Counter {
         }
     }
 
+    /// The counter after a count by a step: towards its threshold, at most onto it.
+    pub fn counted(self, step: u8) -> Counter {
+        let element::Counter { value, threshold } = self.state;
+        let by = self.to_go().unwrap_or(0).min(step.into());
+        let value = match self.direction {
+            Direction::Up => value + by,
+            Direction::Down => value - by,
+        };
+        let state = element::Counter { value, threshold };
+        Counter { state, ..self }
+    }
+
     /// Value and threshold, and how far the one is from the other.
     pub fn in_words(&self) -> String {
         let element::Counter { value, threshold } = self.state;
@@ -88,9 +100,31 @@ impl Counter {
     }
 }
 
+/// The counters of a store by their numbers.
+pub fn all(store: &[u8]) -> Vec<(u16, Counter)> {
+    record::records(store)
+        .iter()
+        .filter_map(|record| Some((record.object(), Counter::of(record)?)))
+        .collect()
+}
+
+/// What a condition on a counter finds under its number.
+pub fn found(store: &[u8], number: u16) -> String {
+    let Some(record) = record::find(store, number) else {
+        return format!("{number:04X} is not in the store");
+    };
+    match Counter::of(&record) {
+        Some(counter) if counter.direction == Direction::Up => {
+            format!("{number:04X} is {}", counter.in_words())
+        }
+        _ => format!("{number:04X} is no counter up"),
+    }
+}
+
 #[cfg(test)]
 mod tests {
     use super::*;
+    use crate::description;
 
     fn said(direction: Direction, value: u32, threshold: u32) -> String {
         let state = element::Counter { value, threshold };
@@ -129,5 +163,36 @@ mod tests {
         assert_eq!(down(2, 2), "2 down to 2, at its threshold");
         assert_eq!(down(1, 2), "1 down to 2, past its threshold");
         assert_eq!(down(u32::MAX, 0), "4294967295 down to 0, 4294967295 to go");
+    }
+
+    #[test]
+    fn a_count_stops_on_the_threshold() {
+        let counted = |direction, value, threshold, step| {
+            let state = element::Counter { value, threshold };
+            Counter { direction, state }.counted(step).state.value
+        };
+        assert_eq!(counted(Direction::Up, 12, 300, 5), 17);
+        assert_eq!(counted(Direction::Up, 299, 300, 5), 300);
+        assert_eq!(counted(Direction::Up, 301, 300, 5), 301);
+        assert_eq!(
+            counted(Direction::Up, u32::MAX - 1, u32::MAX, 255),
+            u32::MAX
+        );
+        assert_eq!(counted(Direction::Down, 10, 2, 5), 5);
+        assert_eq!(counted(Direction::Down, 10, 2, 9), 2);
+        assert_eq!(counted(Direction::Down, 1, 2, 9), 1);
+    }
+
+    #[test]
+    fn what_a_condition_finds_is_told() {
+        let rest = "lcso creation change always read always execute never";
+        let text = format!("E120 counter up value 1 threshold 3 {rest}\nE121 counter down value 3 threshold 1 {rest}\nE122 maximum 8 {rest}");
+        let store = description::to_store(&text).unwrap();
+        assert_eq!(found(&store, 0xE120), "E120 is 1 of 3, 2 to go");
+        assert_eq!(found(&store, 0xE121), "E121 is no counter up");
+        assert_eq!(found(&store, 0xE122), "E122 is no counter up");
+        assert_eq!(found(&store, 0xE123), "E123 is not in the store");
+        let numbers: Vec<u16> = all(&store).iter().map(|(number, _)| *number).collect();
+        assert_eq!(numbers, [0xE120, 0xE121]);
     }
 }

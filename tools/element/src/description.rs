@@ -53,7 +53,7 @@ pub fn to_store(text: &str) -> Result<Vec<u8>, Vec<Slip>> {
 
 fn described(mut scan: Scan, before: Option<u16>) -> Result<Described, Slip> {
     let column = scan.column();
-    let object = scan.one_of("an object number of four hex digits", object_number)?;
+    let object = scan.one_of("an object number of four hex digits", hex::number)?;
     if let Some(why) = faults::object_fault(object, before) {
         return Err(Slip::at(column, why));
     }
@@ -119,11 +119,6 @@ fn read_number(scan: &mut Scan) -> Result<u32, Slip> {
 
 fn keyword(scan: &mut Scan, word: &str) -> Result<(), Slip> {
     scan.one_of(word, |found| found.eq_ignore_ascii_case(word).then_some(()))
-}
-
-fn object_number(word: &str) -> Option<u16> {
-    let digits = word.len() == 4 && word.chars().all(|c| c.is_ascii_hexdigit());
-    digits.then(|| u16::from_str_radix(word, 16).ok()).flatten()
 }
 
 fn maximum(word: &str) -> Option<u16> {

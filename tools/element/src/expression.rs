@@ -1,4 +1,7 @@
-//! Access expressions: their bytes, and their readable form such as `LcsG = operational or LcsO < operational and LcsA > initialisation`.
+//! Access expressions: their bytes, and their readable form such as `LcsG = operational or LcsO < operational and counter E120`.
+use element::expression::{ALWAYS, AND, COUNTER, NEVER, OR};
+
+use crate::hex;
 use crate::names;
 use crate::scan::Scan;
 use crate::trouble::Slip;
@@ -8,10 +11,8 @@ pub const CONDITIONS: usize = 7;
 /// The most groups joined by or.
 pub const GROUPS: usize = 3;
 
-const ALWAYS: u8 = 0x00;
-const NEVER: u8 = 0xFF;
-const AND: u8 = 0xFD;
-const OR: u8 = 0xFE;
+/// The word before the number of a counter.
+const COUNTER_WORD: &str = "counter";
 
 const SUBJECTS: [(u8, &str); 3] = [(0x70, "LcsG"), (0xE0, "LcsA"), (0xE1, "LcsO")];
 const COMPARISONS: [(u8, &str); 3] = [(0xFA, "="), (0xFB, ">"), (0xFC, "<")];
@@ -52,15 +53,37 @@ pub fn to_text(bytes: &[u8]) -> Result<String, String> {
     Ok(words.join(" "))
 }
 
+/// The counters that the conditions of a well-formed expression name, each once, from the left.
+pub fn counters(bytes: &[u8]) -> Vec<u16> {
+    let mut named = Vec::new();
+    for part in bytes.chunks(4) {
+        if let [COUNTER, high, low, ..] = part {
+            let number = u16::from_be_bytes([*high, *low]);
+            if !named.contains(&number) {
+                named.push(number);
+            }
+        }
+    }
+    named
+}
+
 fn condition(part: &[u8], at: usize) -> Result<String, String> {
     let [subject, comparison, state, ..] = part else {
         return Err(format!("a condition of 3 bytes is expected at byte {at}"));
     };
+    if *subject == COUNTER {
+        return Ok(format!("{COUNTER_WORD} {comparison:02X}{state:02X}"));
+    }
     let wrong = |place: usize, byte: u8, expected: &str| {
         format!("{byte:02X} at byte {}, expected {expected}", at + place)
     };
-    let subject = name_of(&SUBJECTS, *subject)
-        .ok_or_else(|| wrong(0, *subject, "70 (LcsG), E0 (LcsA) or E1 (LcsO)"))?;
+    let subject = name_of(&SUBJECTS, *subject).ok_or_else(|| {
+        wrong(
+            0,
+            *subject,
+            "40 (counter), 70 (LcsG), E0 (LcsA) or E1 (LcsO)",
+        )
+    })?;
     let comparison = name_of(&COMPARISONS, *comparison)
         .ok_or_else(|| wrong(1, *comparison, "FA (=), FB (>) or FC (<)"))?;
     let state =
@@ -122,11 +145,19 @@ fn alone(word: &str) -> Option<u8> {
 
 fn read_condition(scan: &mut Scan, bytes: &mut Vec<u8>) -> Result<(), Slip> {
     let subject = if bytes.is_empty() {
-        "always, never, LcsG, LcsA or LcsO"
+        "always, never, LcsG, LcsA, LcsO or counter"
     } else {
-        "LcsG, LcsA or LcsO"
+        "LcsG, LcsA, LcsO or counter"
     };
-    bytes.push(scan.one_of(subject, |word| byte_of(&SUBJECTS, word))?);
+    let first = scan.one_of(subject, |word| {
+        byte_of(&SUBJECTS, word).or_else(|| byte_of(&[(COUNTER, COUNTER_WORD)], word))
+    })?;
+    bytes.push(first);
+    if first == COUNTER {
+        let number = scan.one_of("the number of a counter, four hex digits", hex::number)?;
+        bytes.extend(number.to_be_bytes());
+        return Ok(());
+    }
     bytes.push(scan.one_of("=, > or <", |word| byte_of(&COMPARISONS, word))?);
     bytes.push(scan.one_of(names::STATES_EXPECTED, names::state_of)?);
     Ok(())
@@ -208,7 +239,74 @@ mod tests {
         );
         assert_eq!(
             from_text("", 10).unwrap_err().why,
-            "nothing stands here, expected always, never, LcsG, LcsA or LcsO"
+            "nothing stands here, expected always, never, LcsG, LcsA, LcsO or counter"
+        );
+    }
+
+    #[test]
+    fn a_condition_on_a_counter_goes_both_ways() {
+        let text = "counter E120 and LcsO = operational or counter 00FE";
+        let bytes = [
+            0x40, 0xE1, 0x20, 0xFD, 0xE1, 0xFA, 0x07, 0xFE, 0x40, 0x00, 0xFE,
+        ];
+        assert_eq!(to_text(&bytes).as_deref(), Ok(text));
+        assert_eq!(from_text(text, 1), Ok(bytes.to_vec()));
+        assert_eq!(
+            from_text("COUNTER e120", 1),
+            Ok(vec![0x40, 0xE1, 0x20]),
+            "case does not matter"
+        );
+    }
+
+    #[test]
+    fn a_counters_number_may_have_any_bytes() {
+        for high in 0..=0xFF {
+            for low in 0..=0xFF {
+                let bytes = [0x40, high, low, 0xFE, 0x40, low, high];
+                let text = format!("counter {high:02X}{low:02X} or counter {low:02X}{high:02X}");
+                assert_eq!(to_text(&bytes).as_deref(), Ok(text.as_str()));
+                assert_eq!(from_text(&text, 1), Ok(bytes.to_vec()));
+            }
+        }
+        let joints = [0xFE, 0xFE, 0xFD].map(|low| [0x40, 0xFE, low, 0xFE]);
+        assert!(to_text(&joints.concat()[..11]).is_ok());
+    }
+
+    #[test]
+    fn a_slip_in_a_condition_on_a_counter_is_told() {
+        let expected = "expected the number of a counter, four hex digits";
+        for (text, column, found) in [
+            ("counter", 17, "nothing"),
+            ("counter E12", 18, "'E12'"),
+            ("counter E1200", 18, "'E1200'"),
+            ("counter E12G", 18, "'E12G'"),
+            ("counter < 3", 18, "'<'"),
+        ] {
+            let slip = from_text(text, 10).unwrap_err();
+            assert_eq!(
+                (slip.column, slip.why),
+                (column, format!("{found} stands here, {expected}"))
+            );
+        }
+        assert_eq!(
+            from_text("counter E120 < 3", 1).unwrap_err().why,
+            "'<' stands here, expected and, or, or the end of the expression"
+        );
+        assert_eq!(
+            to_text(&[0x41, 0xE1, 0x20]).unwrap_err(),
+            "41 at byte 0, expected 40 (counter), 70 (LcsG), E0 (LcsA) or E1 (LcsO)"
+        );
+        assert!(to_text(&[0x40, 0xE1]).unwrap_err().starts_with("2 bytes,"));
+    }
+
+    #[test]
+    fn the_counters_of_an_expression_are_named_once() {
+        let of = |text| counters(&from_text(text, 1).unwrap());
+        assert_eq!(of("always"), []);
+        assert_eq!(of("LcsO < operational"), []);
+        assert_eq!(
+            of("counter E121 and LcsO < 07 and counter E120 or counter E121 or counter 4040"),
+            [0xE121, 0xE120, 0x4040]
         );
     }
 }

@@ -47,6 +47,7 @@ Makes a store from a description, one object to a line, numbers rising:
 
   F1D0 maximum 140 lcso creation change \"LcsO < operational\" read always execute always data 01 02
   F1D1 counter up value 12 threshold 300 lcso operational change always read always execute never
+  F1D2 maximum 16 lcso operational change never read \"counter F1D1\" execute never data 54 49 43 4B 45 54
 
 usage: element make FILE DESCRIPTION [--force]
 
@@ -60,9 +61,11 @@ usage: element make FILE DESCRIPTION [--force]
   VALUE       0 to 4294967295; any value may stand with any threshold
   STATE       creation (01), initialisation (03), operational (07) or termination (0F), by name or number
   EXPRESSION  always, never, or in quotes: conditions joined by and and or; and binds first
-  condition   LcsG, LcsA or LcsO; then =, > or <; then a STATE
+  condition   LcsG, LcsA or LcsO; then =, > or <; then a STATE. Or: counter NUMBER
   HEX         the bytes in use, two digits each, with or without blanks between; without data none is in use
 
+`counter E120` holds while the counter up of that number is below its threshold, and each command that it
+grants uses it up by one. It may name any number; where no counter up has it, it does not hold.
 At most 7 conditions and 3 groups joined by or; at most 32 objects and 16384 bytes. Case does not matter.
 A note begins with # and runs to the end of its line. DESCRIPTION may be - for standard input.
 `element show FILE --description` writes such a text; what is made from it has the same bytes.
@@ -88,6 +91,8 @@ expressions, and the data in use as rows of place, hex and text.
 Of a counter it shows the direction, value and threshold, and how many steps of 1 are left to go, or that it
 is at or past its threshold. The bar of a counter up is its value as a part of its threshold, full from there
 on. A counter down has no bar: its first value is not kept, so that only what is left to go is known.
+Beside an expression with conditions on counters it shows how far these are, or that no counter up has the
+number: such a condition does not hold.
 
 usage: element show FILE [--description]
 
@@ -102,6 +107,9 @@ Carries out a list of commands, each on what the one before left, and shows each
 response, and a refusal by its own number (the last error may hold a higher one). Of a counter that is read
 whole, written or counted it shows how far it is then, as `element show` does. A read gives the bytes in use
 from its offset on and may give fewer than it asked for: then both counts are shown. Length FFFF asks for all.
+A command that is granted by conditions on counters moves these by one, a read too: each that moves is shown as
+it stands then, behind the answer, which shows a counter before its step. Where access is denied by an
+expression that names counters, it is shown with how far they are.
 
 usage: element run FILE LIST [--dry] [--accept-refusals] [--plain] [--room BYTES]
 

@@ -43,6 +43,12 @@ pub fn wrapped(bytes: &[u8], first: &str) -> String {
     bytes.chunks(24).enumerate().map(line).collect()
 }
 
+/// A number of four hex digits.
+pub fn number(word: &str) -> Option<u16> {
+    let digits = word.len() == 4 && word.chars().all(|c| c.is_ascii_hexdigit());
+    digits.then(|| u16::from_str_radix(word, 16).ok()).flatten()
+}
+
 /// The bytes of hex digits in pairs, upper or lower case, with blanks between bytes. `first` is the column of the first character.
 pub fn bytes(text: &str, first: usize) -> Result<Vec<u8>, Slip> {
     let mut bytes = Vec::new();

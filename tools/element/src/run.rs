@@ -2,12 +2,14 @@
 use std::fs::File;
 use std::path::Path;
 
-use element::{Element, Session, LARGEST_ROOM};
+use element::command::{FLUSH, GET};
+use element::{Element, Session, LARGEST_ROOM, LEAD};
 
 use crate::answer::Exchange;
 use crate::check;
-use crate::command;
-use crate::counter::Counter;
+use crate::command::{self, Action};
+use crate::counter::{self, Counter};
+use crate::expression;
 use crate::files;
 use crate::keep::{Kept, Place};
 use crate::list::{self, Entry};
@@ -16,6 +18,7 @@ use crate::record;
 use crate::trouble::{Report, Status, Trouble};
 
 const REFUSED: u8 = 0xFF;
+const ACCESS_DENIED: u8 = 0x07;
 
 /// How a list is run.
 #[derive(Clone, Copy, Debug, PartialEq, Eq)]
@@ -65,26 +68,82 @@ pub fn run(file: &Path, list: &Path, options: &Options) -> Result<Report, Troubl
     Ok(report(file, &judged, &entries, &exchanges, &kept, options))
 }
 
-/// Sends one command, and learns a refusal's own number.
+/// Sends one command, and learns a refusal's own number and the counters that its conditions moved.
 pub fn send(kept: &mut Kept, command: &[u8], room: usize) -> Exchange {
     let mut room = vec![0; room];
+    let before = counter::all(&kept.store);
     let answer = Element::new(&mut kept.store, &mut kept.session).send(command, &mut room);
     let (outcome, response) = (answer.outcome, answer.response.to_vec());
     let refused =
         (response.first() == Some(&REFUSED)).then(|| own_number(kept, command, &mut room));
+    let due = match refused.is_some() || outcome != 0 {
+        true => before,
+        false => put_by(command, before),
+    };
     Exchange {
         outcome,
         response,
         refused,
         last_error: kept.session.error,
-        counter: counter_named(&kept.store, command),
+        counter: counter_named(&due, command),
         used: used_named(&kept.store, command),
+        steps: steps(&due, &kept.store),
+        asked: match refused {
+            Some(ACCESS_DENIED) => asked(&kept.store, command),
+            _ => None,
+        },
     }
 }
 
-fn counter_named(store: &[u8], command: &[u8]) -> Option<Counter> {
+/// The counters as a command that is done itself leaves them, before the steps of its conditions.
+fn put_by(command: &[u8], mut counters: Vec<(u16, Counter)>) -> Vec<(u16, Counter)> {
+    let object = command::object(command);
+    let bytes = command.get(LEAD..).unwrap_or(&[]);
+    for (number, counter) in &mut counters {
+        if Some(*number) != object {
+            continue;
+        }
+        match (command::action(command), bytes) {
+            (Some(Action::Count { .. }), [step]) => *counter = counter.counted(*step),
+            (Some(Action::Write), bytes) => {
+                if let Ok(bytes) = bytes.try_into() {
+                    counter.state = element::Counter::from_bytes(bytes);
+                }
+            }
+            _ => {}
+        }
+    }
+    counters
+}
+
+/// The counters that stand in the store otherwise than the command itself leaves them: the conditions that granted it moved them.
+fn steps(due: &[(u16, Counter)], store: &[u8]) -> Vec<(u16, Counter)> {
+    let mut after = counter::all(store);
+    after.retain(|one| !due.contains(one));
+    after
+}
+
+/// The expression that a command asks in words, and what its conditions on counters find; nothing where it has none.
+fn asked(store: &[u8], command: &[u8]) -> Option<String> {
     let record = record::find(store, command::object(command)?)?;
-    Counter::of(&record)
+    let slot = match command.first()? & !FLUSH {
+        GET => 1,
+        _ => 0,
+    };
+    let bytes = record.expression(slot);
+    let found: Vec<String> = expression::counters(bytes)
+        .iter()
+        .map(|number| counter::found(store, *number))
+        .collect();
+    let text = expression::to_text(bytes).ok()?;
+    let name = names::SLOTS.get(slot)?;
+    (!found.is_empty()).then(|| format!("{name}: {text}; {}", found.join(", ")))
+}
+
+fn counter_named(counters: &[(u16, Counter)], command: &[u8]) -> Option<Counter> {
+    let object = command::object(command)?;
+    let (_, counter) = counters.iter().find(|(number, _)| *number == object)?;
+    Some(*counter)
 }
 
 /// An object of the session is one byte.
@@ -211,6 +270,86 @@ mod tests {
         assert_eq!(left("02 02 00 05 F1 D0 00 00 01"), (Some(8), Some(10)));
         assert_eq!(left("02 02 00 05 F1 D1 00 00 01"), (Some(3), None));
         assert_eq!(left("02 02 00 05 F1 D2 00 00 01"), (Some(1), None));
+    }
+
+    /// A counter of trips, a ticket that is read and a stamp that is written by its conditions, and the counter of these, which asks itself.
+    fn ticket() -> Kept {
+        let text = "E120 counter up value 1 threshold 3 lcso creation change always read \"counter E120\" execute never
+E121 maximum 8 lcso creation change \"counter E123\" read \"LcsO > creation or counter E120 and counter E123\" execute never data 41 42
+E123 counter up value 7 threshold 9 lcso creation change \"counter E123\" read always execute never";
+        let mut kept = Kept {
+            store: description::to_store(text).unwrap(),
+            session: Session::fresh(),
+        };
+        said(&mut kept, OPEN);
+        kept
+    }
+
+    /// Each counter that moved with its value, and the value that the command itself leaves in the counter it names.
+    fn moved(kept: &mut Kept, text: &str) -> (Option<u8>, Option<u32>, Vec<(u16, u32)>) {
+        let exchange = said(kept, text);
+        let value = |counter: &Counter| counter.state.value;
+        let steps = exchange.steps.iter();
+        (
+            exchange.refused,
+            exchange.counter.as_ref().map(value),
+            steps.map(|(number, one)| (*number, value(one))).collect(),
+        )
+    }
+
+    #[test]
+    fn the_counters_that_conditions_move_are_learned() {
+        let mut kept = ticket();
+        let mut moved = |text| moved(&mut kept, text);
+        let read = "01 00 00 06 E1 21 00 00 00 02";
+        let both = vec![(0xE120, 2), (0xE123, 8)];
+        assert_eq!(moved(read), (None, None, both));
+        assert_eq!(
+            moved("01 00 00 06 E1 21 00 03 00 02"),
+            (Some(8), None, vec![])
+        );
+        assert_eq!(moved("01 01 00 02 E1 21"), (None, None, vec![]));
+        let own = vec![(0xE120, 3)];
+        let counter = "01 00 00 06 E1 20 00 00 00 08";
+        assert_eq!(moved(counter), (None, Some(2), own));
+        assert_eq!(moved(counter), (Some(7), Some(3), vec![]));
+        assert_eq!(moved(read), (Some(7), None, vec![]));
+    }
+
+    #[test]
+    fn a_step_after_a_write_or_a_count_is_told_apart() {
+        let mut kept = ticket();
+        let mut moved = |text| moved(&mut kept, text);
+        let write = "02 00 00 0C E1 23 00 00 00 00 00 01 00 00 00 09";
+        assert_eq!(moved(write), (None, Some(1), vec![(0xE123, 2)]));
+        let count = "02 02 00 05 E1 23 00 00 03";
+        assert_eq!(moved(count), (None, Some(5), vec![(0xE123, 6)]));
+        let lcso = "02 01 00 07 E1 23 20 03 C0 01 03";
+        assert_eq!(moved(lcso), (None, Some(6), vec![(0xE123, 7)]));
+        let stamp = "02 40 00 05 E1 21 00 00 43";
+        assert_eq!(moved(stamp), (None, None, vec![(0xE123, 8)]));
+        let onto = "02 02 00 05 E1 23 00 00 FF";
+        assert_eq!(moved(onto), (None, Some(9), vec![]));
+        assert_eq!(moved(count), (Some(7), Some(9), vec![]));
+    }
+
+    #[test]
+    fn what_a_refused_command_asked_of_counters_is_learned() {
+        let mut kept = ticket();
+        for _ in 0..2 {
+            said(&mut kept, "01 00 00 06 E1 21 00 00 00 00");
+        }
+        let asked = |kept: &mut Kept, text| said(kept, text).asked;
+        assert_eq!(
+            asked(&mut kept, "81 00 00 06 E1 21 00 00 00 00").as_deref(),
+            Some("read: LcsO > creation or counter E120 and counter E123; E120 is 3 of 3, at its threshold, E123 is 9 of 9, at its threshold")
+        );
+        assert_eq!(
+            asked(&mut kept, "02 00 00 05 E1 21 00 00 43").as_deref(),
+            Some("change: counter E123; E123 is 9 of 9, at its threshold")
+        );
+        assert_eq!(asked(&mut kept, "01 00 00 06 E1 22 00 00 00 00"), None);
+        assert_eq!(asked(&mut kept, "02 00 00 05 F1 C2 00 00 00"), None);
     }
 
     #[test]

@@ -4,7 +4,7 @@ use std::path::Path;
 use element::Session;
 
 use crate::check;
-use crate::counter::{Counter, Direction};
+use crate::counter::{self, Counter, Direction};
 use crate::description;
 use crate::expression;
 use crate::hex;
@@ -35,12 +35,13 @@ pub fn show(file: &Path, as_description: bool) -> Result<Report, Trouble> {
     text.push_str(&format!("session: {}\n", names::session(session)));
     for record in record::records(&store) {
         text.push('\n');
-        text.push_str(&object(&record));
+        text.push_str(&object(&record, &store));
     }
     Ok(Report::done(text))
 }
 
-fn object(record: &Record) -> String {
+/// An object; beside an expression stands what its conditions on counters find in the store.
+fn object(record: &Record, store: &[u8]) -> String {
     let mut text = format!(
         "{:04X}  kind {:04X}  {}  LcsO {}\n",
         record.object(),
@@ -49,11 +50,23 @@ fn object(record: &Record) -> String {
         names::state_shown(record.lcso()),
     );
     for (index, name) in names::SLOTS.iter().enumerate() {
-        let shown = expression::to_text(record.expression(index)).unwrap_or_else(|why| why);
-        text.push_str(&format!("      {name:<8} {shown}\n"));
+        let bytes = record.expression(index);
+        let shown = expression::to_text(bytes).unwrap_or_else(|why| why);
+        text.push_str(&format!("      {name:<8} {shown}{}\n", found(bytes, store)));
     }
     text.push_str(&hex::rows(record.data(), "      "));
     text
+}
+
+fn found(bytes: &[u8], store: &[u8]) -> String {
+    let found: Vec<String> = expression::counters(bytes)
+        .iter()
+        .map(|number| counter::found(store, *number))
+        .collect();
+    match found.is_empty() {
+        true => String::new(),
+        false => format!("  ({})", found.join(", ")),
+    }
 }
 
 /// How full an object is, or how far a counter is. A counter down has no bar: the value that it began with is not kept.
@@ -123,7 +136,7 @@ mod tests {
     /// A counter as it is shown.
     fn shown(line: &str) -> String {
         let store = description::to_store(line).unwrap();
-        object(&record::records(&store)[0])
+        object(&record::records(&store)[0], &store)
     }
 
     #[test]
@@ -160,10 +173,21 @@ mod tests {
     fn an_object_is_shown() {
         let line = "F1D0 maximum 10 lcso operational change \"LcsO < operational\" read always execute never data 41 00";
         let store = description::to_store(line).unwrap();
-        let shown = object(&record::records(&store)[0]);
+        let shown = object(&record::records(&store)[0], &store);
         assert_eq!(
             shown,
             "F1D0  kind 0001  [####................]  used 2 of 10  LcsO 07 operational\n      change   LcsO < operational\n      read     always\n      execute  never\n         0  41 00                                            A.\n"
+        );
+    }
+
+    #[test]
+    fn what_conditions_on_counters_find_is_shown() {
+        let text = "E120 counter up value 1 threshold 3 lcso creation change never read always execute never\nE121 maximum 8 lcso creation change \"counter E124 or counter E121\" read \"LcsO < operational or counter E120\" execute never";
+        let store = description::to_store(text).unwrap();
+        let shown = object(&record::records(&store)[1], &store);
+        assert_eq!(
+            shown,
+            "E121  kind 0001  [....................]  used 0 of 8  LcsO 01 creation\n      change   counter E124 or counter E121  (E124 is not in the store, E121 is no counter up)\n      read     LcsO < operational or counter E120  (E120 is 1 of 3, 2 to go)\n      execute  never\n"
         );
     }
 }

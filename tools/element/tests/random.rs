@@ -96,7 +96,7 @@ fn change(numbers: &mut Numbers, store: &mut Vec<u8>) {
             false => numbers.one(&heads) + numbers.below(100),
         };
         let special = [
-            0, 1, 2, 3, 4, 7, 8, 0x0F, 0x1B, 0x70, 0xE0, 0xE1, 0xFA, 0xFC, 0xFD, 0xFE, 0xFF,
+            0, 1, 2, 3, 4, 7, 8, 0x0F, 0x1B, 0x40, 0x70, 0xE0, 0xE1, 0xFA, 0xFC, 0xFD, 0xFE, 0xFF,
         ];
         let byte = match numbers.below(3) {
             0 => numbers.byte(),
@@ -153,7 +153,7 @@ fn expressions_go_both_ways() {
         let bytes: Vec<u8> = (0..count)
             .map(|_| {
                 numbers.one(&[
-                    0x70, 0xE0, 0xE1, 0xFA, 0xFB, 0xFC, 0xFD, 0xFE, 0x00, 0xFF, 7,
+                    0x40, 0x70, 0xE0, 0xE1, 0xFA, 0xFB, 0xFC, 0xFD, 0xFE, 0x00, 0xFF, 7,
                 ])
             })
             .collect();
@@ -196,7 +196,8 @@ fn random_commands_are_told() {
     }
 }
 
-/// What a read gives: the bytes in use from its offset on, at most its length, where the room has 4 bytes more than these.
+/// What a read gives: the bytes in use from its offset on, at most its length, where the room has 4 bytes more than these. The store changes exactly
+/// where a counter is told to have stepped.
 #[test]
 fn random_reads_give_what_is_in_use() {
     let mut numbers = Numbers::new(8);
@@ -233,7 +234,7 @@ fn check_read(numbers: &mut Numbers, store: &[u8]) -> usize {
         },
     };
     let exchange = run::send(&mut kept, &command, space);
-    assert_eq!(kept.store, store);
+    assert_eq!(kept.store == store, exchange.steps.is_empty());
     let given = record.data().get(offset..used.min(offset + length));
     let told = exchange.response.get(4..).unwrap_or(&[]);
     match (exchange.refused, given) {

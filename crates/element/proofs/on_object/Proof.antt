@@ -7,8 +7,8 @@ use Rattle.element.proofs.on_object.Tie as tie
 
 pub on-object-spec : {M : Type 1} → statement M
 on-object-spec = tie.close (tie.spec
-    (λ c κs. (search object-long, search accepted-sound)) (λ c κs. (search action-in-full, search needs)) (λ c. search needs)
+    (λ c κs. (search object-long, search accepted-sound)) (λ c κs. (search action-in-full, search accepted-sound, search needs)) (λ c. search needs)
     (λ c κs. search needs) (λ c. search needs)
-    (λ c κs. (search action-in-full, search accepted-sound, search needs, told (c .before .before .before .before .judge-target .ensures) (search needs)))
+    (λ c κs. (search action-in-full, search accepted-sound, search needs, told (c .before .before .before .before .before .judge-target .ensures .0) (search needs), search needs, search needs))
     (λ c. search needs) (λ c. search needs) (λ c. search refused-late) (λ c. search needs) (λ c. search needs)
     (λ c. search accepted-late))

@@ -1,20 +1,9 @@
 -- `judge::judge_stored` meets its contract.
-use Rattle.judge.proofs.Judging.{stored-judged, own-by, stored-get, fitting-told, stored-write}
-use Rattle.rules.specs.Chain.{_and-then_}
-use Rattle.rules.specs.Operation.{operation}
-use Rattle.laws.proofs.Calls.{steps-not}
-use Rattle.command.proofs.InForm.{parts-there}
+use Rattle.judge.proofs.Judging.{stored-judged, stored-counters}
 use borrow.Author.Needs.{needs}
 use Rattle.judge.proofs.judge_stored.Statement.{statement}
 use Rattle.judge.proofs.judge_stored.Tie as tie
 
 pub judge-stored-spec : {M : Type 1} → statement M
-unfolding operation _and-then_
 judge-stored-spec = tie.close (tie.spec
-    (λ c κs. search needs) (λ c. search (stored-judged, steps-not)) (λ c. search needs) (λ c κs. search needs)
-    (λ c κs. search parts-there) (λ c. search needs) (λ c κs. search needs) (λ c κs. search needs) (λ c. search needs)
-    (λ c κs. (search needs, search parts-there)) (λ c. search needs) (λ c κs. (search needs, search parts-there))
-    (λ c. search needs) (λ c κs. (search needs, search parts-there)) (λ c. search needs) (λ c κs. (search needs, search parts-there))
-    (λ c. search (stored-judged, steps-not, own-by, stored-get)) (λ c. search (stored-judged, steps-not, own-by, fitting-told))
-    (λ c. search (stored-judged, steps-not, own-by, stored-write)) (λ c. search (stored-judged, steps-not, own-by, stored-write))
-    (λ c. search (stored-judged, steps-not, own-by)) (λ c. search (stored-judged, steps-not, own-by)))
+    (λ c κs. (search needs, search needs)) (λ c κs. (search needs, search needs)) (λ c. (search stored-judged, search stored-counters, search needs)))

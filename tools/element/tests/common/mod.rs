@@ -62,7 +62,15 @@ pub fn expression(numbers: &mut Numbers) -> String {
     text
 }
 
+/// A condition on a life cycle, or on a counter of any number, with the bytes that join among them.
 fn condition(numbers: &mut Numbers) -> String {
+    if numbers.below(3) == 0 {
+        let [high, low] = [(); 2].map(|()| match numbers.below(3) {
+            0 => numbers.one(&[0xFD, 0xFE]),
+            _ => numbers.byte(),
+        });
+        return format!("counter {high:02X}{low:02X}");
+    }
     let states = ["creation", "initialisation", "operational", "termination"];
     format!(
         "{} {} {}",

@@ -1,8 +1,8 @@
--- `judge::exhausted` meets its contract.
-use Rattle.judge.proofs.Judging.{counter-in-use, counter-part, exhausted-there}
+-- The bytes of a counter are all of its data.
 use borrow.Author.Needs.{needs}
-use Rattle.judge.proofs.exhausted.Statement.{statement}
-use Rattle.judge.proofs.exhausted.Tie as tie
+use Rattle.record.proofs.Parts.{counter-in-use, counter-part, exhausted-there}
+use Rattle.record.proofs.exhausted.Statement.{statement}
+use Rattle.record.proofs.exhausted.Tie as tie
 
 pub exhausted-spec : {M : Type 1} → statement M
 exhausted-spec = tie.close (tie.spec
