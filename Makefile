@@ -4,8 +4,8 @@
 # Runs a command whose output matters only where it fails.
 quietly = log=$$(mktemp); $(1) >$$log 2>&1 || { cat $$log; rm -f $$log; exit 1; }; rm -f $$log
 
-# A validator's morning by the tool: each command with its response, after a comparison with the proved program; then a counter's day, and a ticket of
-# three trips.
+# A validator's morning by the tool: each command with its response, after a comparison with the proved program; then a counter's day, a ticket of
+# three trips, and a fare queue's day.
 demo:
 	@tools/prove check bench
 	@$(MAKE) --no-print-directory tool

@@ -4,7 +4,9 @@ use reference::counter::{self, Counter};
 use reference::engine::{FLUSH, IDENTIFIER};
 use reference::generator::random::Random;
 
-use crate::stores::{Beginning, Object, ALWAYS, LARGEST};
+use crate::queues::{Queue, FARE_HEAD, HEAD, LONGEST_BODY};
+use crate::sides::{Reference, Side};
+use crate::stores::{Beginning, Object, ALWAYS, HALF_FULL, LARGEST};
 
 pub const COMMANDS: usize = 10_000;
 pub const ROOM: usize = LARGEST + 4;
@@ -17,12 +19,15 @@ pub type List = Vec<(Vec<u8>, usize)>;
 pub enum Kind {
     Get(usize, usize),
     GetShortened,
+    GetQueue,
     GetSession,
     GetMetadata,
     Write(u8, usize, usize),
     WriteState,
     WriteCounter(u8),
     Count,
+    Append(usize, usize),
+    Acknowledge,
     SetState,
     SetAll,
     Open,
@@ -39,16 +44,21 @@ pub enum Kind {
     NoObject,
     Denied,
     DeniedSession,
+    WriteQueue,
     CountData,
     CountState,
+    NoQueue,
     PastUsed,
     PastMaximum,
     PartOfCounter,
     CountAtOffset,
     CountReached,
+    AppendPastMaximum,
+    AcknowledgeAbsent,
     BadContent,
     BadState,
     SmallRoom,
+    AppendEnded,
 }
 
 /// A kind with its name, and the code of the refusal that each of its commands gets.
@@ -68,11 +78,12 @@ const fn refusal(name: &'static str, kind: Kind, code: u8) -> Row {
     Row { name, kind, code }
 }
 
-pub const ROWS: [Row; 42] = [
+pub const ROWS: [Row; 51] = [
     done("get data, 0 to 16 bytes", Kind::Get(0, 16)),
     done("get data, 17 to 140 bytes", Kind::Get(17, 140)),
     done("get data, 141 to 1,500 bytes", Kind::Get(141, LARGEST)),
     done("get data, length past used", Kind::GetShortened),
+    done("get data, queue", Kind::GetQueue),
     done("get data, object of the session", Kind::GetSession),
     done("get metadata", Kind::GetMetadata),
     done("write, 1 to 16 bytes", Kind::Write(0x00, 1, 16)),
@@ -91,6 +102,9 @@ pub const ROWS: [Row; 42] = [
     ),
     done("erase and write, counter", Kind::WriteCounter(0x40)),
     done("count", Kind::Count),
+    done("append, 1 to 16 bytes", Kind::Append(1, 16)),
+    done("append, 17 to 200 bytes", Kind::Append(17, LONGEST_BODY)),
+    done("acknowledge", Kind::Acknowledge),
     done("set metadata, LcsO", Kind::SetState),
     done("set metadata, LcsO and three expressions", Kind::SetAll),
     done("open", Kind::Open),
@@ -106,21 +120,26 @@ pub const ROWS: [Row; 42] = [
     refusal("01", Kind::NoObject, 0x01),
     refusal("07, stored object", Kind::Denied, 0x07),
     refusal("07, object of the session", Kind::DeniedSession, 0x07),
-    refusal("03, count, data", Kind::CountData, 0x03),
+    refusal("07, write, queue", Kind::WriteQueue, 0x07),
+    refusal("03, count, data or queue", Kind::CountData, 0x03),
     refusal("03, count, life cycle", Kind::CountState, 0x03),
+    refusal("03, append or acknowledge, no queue", Kind::NoQueue, 0x03),
     refusal("08, get", Kind::PastUsed, 0x08),
     refusal("08, write", Kind::PastMaximum, 0x08),
     refusal("08, write, part of a counter", Kind::PartOfCounter, 0x08),
     refusal("08, count, offset", Kind::CountAtOffset, 0x08),
     refusal("08, count, threshold reached", Kind::CountReached, 0x08),
+    refusal("08, append", Kind::AppendPastMaximum, 0x08),
+    refusal("05, acknowledge", Kind::AcknowledgeAbsent, 0x05),
     refusal("05, last field of metadata", Kind::BadContent, 0x05),
     refusal("05, life cycle", Kind::BadState, 0x05),
-    refusal("0D", Kind::SmallRoom, 0x0D),
+    refusal("0D, get", Kind::SmallRoom, 0x0D),
+    refusal("0D, append", Kind::AppendEnded, 0x0D),
     done("outcome 1", Kind::NoRoom),
 ];
 
 impl Kind {
-    /// The beginning as this kind needs it: malformed store, malformed session, closed.
+    /// The beginning as this kind needs it: malformed store, malformed session, closed, a queue that is put back before each command.
     pub fn begin(self, from: &Beginning) -> Beginning {
         let mut begin = from.clone();
         match self {
@@ -130,20 +149,39 @@ impl Kind {
             }
             Kind::BadSession => begin.session.lcsg = 2,
             Kind::Closed => begin.session.opened = false,
+            Kind::Append(..) | Kind::Acknowledge => {
+                let queue = begin.queues[HALF_FULL];
+                begin.queues = vec![queue];
+                begin.put_back = queue.record();
+            }
             _ => {}
         }
         begin
     }
 
-    /// Whether the beginning has the objects of this kind: the factory store has no counter.
+    /// Whether the beginning has the objects of this kind: the factory store has no counter and no queue.
     pub fn has_objects(self, begin: &Beginning) -> bool {
         match self {
             Kind::WriteCounter(_) | Kind::Count | Kind::PartOfCounter | Kind::CountAtOffset => {
                 !begin.counted.is_empty()
             }
             Kind::CountReached => !begin.reached.is_empty(),
-            _ => true,
+            _ => !self.is_of_queue() || !begin.queues.is_empty(),
         }
+    }
+
+    /// Whether its commands are aimed at queues.
+    fn is_of_queue(self) -> bool {
+        matches!(
+            self,
+            Kind::GetQueue
+                | Kind::Append(..)
+                | Kind::Acknowledge
+                | Kind::WriteQueue
+                | Kind::AppendPastMaximum
+                | Kind::AcknowledgeAbsent
+                | Kind::AppendEnded
+        )
     }
 
     /// Whether a mixed list may hold it: its refusal does not rest on the beginning.
@@ -163,23 +201,40 @@ pub fn of_kind(kind: Kind, begin: &Beginning, random: &mut Random) -> List {
 }
 
 /// A list of all kinds, chosen evenly; after a close come a refused get and an open.
+/// The commands to queues are aimed at the queues as those before leave them.
 pub fn mixed(begin: &Beginning, random: &mut Random) -> List {
     let mut kinds: Vec<Kind> = ROWS.iter().map(|row| row.kind).collect();
     kinds.retain(|kind| kind.has_objects(begin));
+    let mut now = begin.clone();
     let mut list = List::new();
     while list.len() < COMMANDS {
+        let behind = list.len();
         match random.pick(&kinds) {
             Kind::Closed => {
                 list.push((framed(0x71, 0x00, &[]), ROOM));
-                push(Kind::Get(0, 16), begin, random, &mut list);
-                push(Kind::Open, begin, random, &mut list);
+                push(Kind::Get(0, 16), &now, random, &mut list);
+                push(Kind::Open, &now, random, &mut list);
             }
-            kind if kind.mixes() => push(kind, begin, random, &mut list),
+            kind if kind.mixes() => push(kind, &now, random, &mut list),
             _ => {}
         }
+        follow(&mut now, &list[behind..]);
     }
     list.truncate(COMMANDS);
     list
+}
+
+/// Store and session as these commands leave them.
+fn follow(now: &mut Beginning, commands: &[(Vec<u8>, usize)]) {
+    let mut room = [0; ROOM];
+    for (command, size) in commands {
+        Reference::execute(
+            command,
+            &mut now.store,
+            &mut now.session,
+            &mut room[..*size],
+        );
+    }
 }
 
 fn framed(cmd: u8, param: u8, in_data: &[u8]) -> Vec<u8> {
@@ -253,6 +308,109 @@ fn count(number: u16, offset: usize, random: &mut Random) -> Vec<u8> {
     set(0x02, number, offset, &[random.byte()])
 }
 
+/// A set that names an object and then brings bytes.
+fn set_bytes(param: u8, number: u16, bytes: &[u8]) -> Vec<u8> {
+    let mut in_data = number.to_be_bytes().to_vec();
+    in_data.extend_from_slice(bytes);
+    framed(0x02, param, &in_data)
+}
+
+pub fn append(number: u16, length: usize, random: &mut Random) -> Vec<u8> {
+    set_bytes(0x04, number, &random.bytes(length))
+}
+
+pub fn acknowledge(number: u16, fare: u32) -> Vec<u8> {
+    set_bytes(0x05, number, &fare.to_be_bytes())
+}
+
+/// One of the queues that are such, or of all where none is.
+fn queue_that(is: impl Fn(&Queue) -> bool, begin: &Beginning, random: &mut Random) -> Queue {
+    let mut such = begin.queues.to_vec();
+    such.retain(is);
+    match such.is_empty() {
+        true => random.pick(&begin.queues),
+        false => random.pick(&such),
+    }
+}
+
+/// The number of a fare of a queue that has some: most often the first.
+fn present(queue: Queue, store: &[u8], random: &mut Random) -> u32 {
+    let (first, next) = (queue.first(store), queue.next(store));
+    match random.below(4) {
+        0 if first < next => first + random.below((next - first) as usize) as u32,
+        _ => first,
+    }
+}
+
+/// A number that no fare of a queue has: of a fare before the first, the next one, a later one.
+fn absent(queue: Queue, store: &[u8], random: &mut Random) -> u32 {
+    let (first, next) = (queue.first(store), queue.next(store));
+    random.pick(&[first.wrapping_sub(1), next, next + 1_000])
+}
+
+/// Commands to queues.
+fn on_queue(kind: Kind, begin: &Beginning, random: &mut Random) -> Vec<u8> {
+    let store = &begin.store;
+    let queue = random.pick(&begin.queues);
+    match kind {
+        Kind::GetQueue => get(queue.number, 0, random.pick(&[HEAD, LARGEST])),
+        Kind::Append(low, high) => {
+            let length = random.between(low, high);
+            let fits = |queue: &Queue| queue.left(store) >= FARE_HEAD + length;
+            append(queue_that(fits, begin, random).number, length, random)
+        }
+        Kind::Acknowledge => {
+            let has_fares = |queue: &Queue| queue.first(store) < queue.next(store);
+            let queue = queue_that(has_fares, begin, random);
+            acknowledge(queue.number, present(queue, store, random))
+        }
+        Kind::AppendPastMaximum => {
+            let is_short = |queue: &Queue| queue.left(store) < FARE_HEAD + LONGEST_BODY;
+            let queue = queue_that(is_short, begin, random);
+            let least = (queue.left(store) + 1).saturating_sub(FARE_HEAD);
+            let length = random.between(least.clamp(1, LONGEST_BODY), LONGEST_BODY);
+            append(queue.number, length, random)
+        }
+        Kind::AcknowledgeAbsent => acknowledge(queue.number, absent(queue, store, random)),
+        Kind::AppendEnded => append(random.pick(&begin.ended).number, 1, random),
+        _ => set(
+            random.pick(&[0x00, 0x40]),
+            queue.number,
+            0,
+            &[random.byte()],
+        ),
+    }
+}
+
+/// An append or an acknowledgement to data, to a counter or to a life cycle object.
+fn to_no_queue(begin: &Beginning, random: &mut Random) -> Vec<u8> {
+    let mut numbers = vec![0xE0C0, 0xF1C0];
+    numbers.extend(begin.written.iter().map(|object| object.number));
+    numbers.extend(begin.counted.iter().map(|counter| counter.0));
+    let number = random.pick(&numbers);
+    match random.below(2) {
+        0 => append(number, 1, random),
+        _ => acknowledge(number, 0),
+    }
+}
+
+/// An InData of a wrong size: of a get, an append or an acknowledgement.
+fn of_wrong_size(random: &mut Random) -> Vec<u8> {
+    match random.below(4) {
+        0 => framed(0x01, 0x00, &[0xF1, 0xD0, 0x00]),
+        1 => append(0xF1D0, 0, random),
+        2 => append(0xF1D0, LONGEST_BODY + 1, random),
+        _ => set_bytes(0x05, 0xF1D0, &[0x00; 3]),
+    }
+}
+
+/// An object whose metadata can be set: one that takes writes, or a queue.
+fn settable(begin: &Beginning, random: &mut Random) -> u16 {
+    let mut numbers: Vec<u16> = begin.written.iter().map(|object| object.number).collect();
+    numbers.extend(begin.queues.iter().map(|queue| queue.number));
+    random.pick(&numbers)
+}
+
 /// One of the three objects of the session.
 fn session_number(random: &mut Random) -> u16 {
     random.pick(&[0xE0C0, 0xF1C0, 0xF1C2])
@@ -268,7 +426,7 @@ fn push(kind: Kind, begin: &Beginning, random: &mut Random, list: &mut List) {
 }
 
 fn make(kind: Kind, begin: &Beginning, random: &mut Random, turn: usize) -> (Vec<u8>, usize) {
-    let writable = random.pick(&begin.written).number;
+    let settable = settable(begin, random);
     let command = match kind {
         Kind::Get(low, high) => {
             let length = random.between(low, high);
@@ -279,7 +437,7 @@ fn make(kind: Kind, begin: &Beginning, random: &mut Random, turn: usize) -> (Vec
             get(read.number, random.between(0, read.used), read.used + 1)
         }
         Kind::GetSession => get(session_number(random), 0, 1),
-        Kind::GetMetadata => framed(0x01, 0x01, &writable.to_be_bytes()),
+        Kind::GetMetadata => framed(0x01, 0x01, &settable.to_be_bytes()),
         Kind::Write(param, low, high) => {
             let length = random.between(low, high);
             write(
@@ -292,8 +450,8 @@ fn make(kind: Kind, begin: &Beginning, random: &mut Random, turn: usize) -> (Vec
         Kind::WriteState => set(0x00, random.pick(&[0xE0C0, 0xF1C0]), 0, &[0x01]),
         Kind::WriteCounter(param) => write_counter(param, begin, random),
         Kind::Count => count(random.pick(&begin.counted).0, 0, random),
-        Kind::SetState => set_metadata(writable, &[(0xC0, &[0x01])]),
-        Kind::SetAll => set_all(writable, &begin.sent, &begin.sent),
+        Kind::SetState => set_metadata(settable, &[(0xC0, &[0x01])]),
+        Kind::SetAll => set_all(settable, &begin.sent, &begin.sent),
         Kind::CloseOpen if turn % 2 == 0 => framed(0x71, 0x00, &[]),
         Kind::Open | Kind::CloseOpen => framed(0x70, 0x00, &IDENTIFIER),
         Kind::SmallRoom => {
@@ -301,7 +459,8 @@ fn make(kind: Kind, begin: &Beginning, random: &mut Random, turn: usize) -> (Vec
             let command = get_data(holding(&begin.read, length, random), length, random);
             return (command, 4 + random.below(length));
         }
-        Kind::NoRoom => return (framed(0x01, 0x01, &writable.to_be_bytes()), random.below(4)),
+        Kind::NoRoom => return (framed(0x01, 0x01, &settable.to_be_bytes()), random.below(4)),
+        kind if kind.is_of_queue() => on_queue(kind, begin, random),
         _ => refused(kind, begin, random),
     };
     (command, ROOM)
@@ -318,7 +477,7 @@ fn refused(kind: Kind, begin: &Beginning, random: &mut Random) -> Vec<u8> {
         }
         Kind::UnknownCmd => framed(random.pick(&[0x00, 0x03, 0x6F, 0x72]), 0x00, &[]),
         Kind::UnknownParam => framed(random.pick(&[0x01, 0x02, 0x70, 0x71]), 0x03, &[0xF1, 0xD0]),
-        Kind::BadLength => framed(0x01, 0x00, &[0xF1, 0xD0, 0x00]),
+        Kind::BadLength => of_wrong_size(random),
         Kind::OtherIdentifier => framed(0x70, 0x00, b"\xD2\x76\x00\x00\x04GenAuthAppL"),
         Kind::NoObject => get(random.between(0xF300, 0xF3FF) as u16, 0, 1),
         Kind::Denied => match random.below(3) {
@@ -326,12 +485,14 @@ fn refused(kind: Kind, begin: &Beginning, random: &mut Random) -> Vec<u8> {
             1 => set(0x00, locked, 0, &[0x00]),
             _ => set_metadata(locked, &[(0xC0, &[0x01])]),
         },
-        Kind::DeniedSession => match random.below(3) {
+        Kind::DeniedSession => match random.below(4) {
             0 => set(0x00, 0xF1C2, 0, &[0x00]),
-            1 => framed(0x01, 0x01, &session_number(random).to_be_bytes()),
+            1 => append(0xF1C2, 1, random),
+            2 => framed(0x01, 0x01, &session_number(random).to_be_bytes()),
             _ => set_metadata(session_number(random), &[(0xC0, &[0x01])]),
         },
-        Kind::CountData => count(written.number, 0, random),
+        Kind::CountData => count(settable(begin, random), 0, random),
+        Kind::NoQueue => to_no_queue(begin, random),
         Kind::CountState => count(random.pick(&[0xE0C0, 0xF1C0]), 0, random),
         Kind::PastUsed => get(read.number, read.used + 1, random.below(17)),
         Kind::PastMaximum => set(0x00, written.number, written.maximum, &[0x00]),

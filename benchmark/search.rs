@@ -6,6 +6,8 @@
 #[allow(dead_code)]
 mod clock;
 #[allow(dead_code)]
+mod queues;
+#[allow(dead_code)]
 mod stores;
 
 use std::hint::black_box;

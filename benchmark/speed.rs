@@ -10,6 +10,7 @@ mod clock;
 mod library;
 mod lists;
 mod pictures;
+mod queues;
 mod sides;
 mod stores;
 
@@ -18,11 +19,13 @@ use std::rc::Rc;
 use std::{env, fs, io};
 
 use reference::generator::random::Random;
+use reference::store::LARGEST_STORE;
 use reference::Session;
 
 use clock::Clock;
 use lists::{List, ROOM, ROWS};
 use pictures::{Pair, Point, Scale, Series};
+use queues::Fares;
 use sides::{Ours, Reference, Side};
 use stores::{Beginning, Object, LARGEST};
 
@@ -48,6 +51,9 @@ struct Left {
 
 /// Runs a list; gives the nanoseconds per command, and what it leaves.
 fn run<S: Side>(list: &List, begin: &Beginning) -> (f64, Left) {
+    if !begin.put_back.is_empty() {
+        return run_put_back::<S>(list, begin);
+    }
     let mut store = begin.store.clone();
     let mut kept = S::keep(begin.session);
     let mut room = vec![0xA5; ROOM];
@@ -74,13 +80,75 @@ fn run<S: Side>(list: &List, begin: &Beginning) -> (f64, Left) {
     )
 }
 
-/// Compares the two sides after every command.
-fn compare(name: &str, list: &List, begin: &Beginning) {
+/// The same, where each command is to meet the same bytes; the time of putting them back is taken off.
+/// As many stores as are no larger than one full store are put back at once, so that a command seldom comes right behind its copy.
+fn run_put_back<S: Side>(list: &List, begin: &Beginning) -> (f64, Left) {
+    let mut stores = vec![begin.store.clone(); LARGEST_STORE / begin.store.len()];
+    let mut kept = S::keep(begin.session);
+    let mut room = vec![0xA5; ROOM];
+    let mut outcomes = 0;
+    let turns = list.chunks(stores.len());
+    let before = time_of_putting_back(turns.len(), &mut stores, begin);
+    let start = Clock::start();
+    for commands in black_box(turns) {
+        put_all_back(&mut stores, begin);
+        outcomes += execute_each::<S>(commands, &mut stores, &mut kept, &mut room);
+    }
+    let time = (start.nanoseconds() - before) / list.len() as f64;
+    let last = (list.len() - 1) % stores.len();
+    let left = Left {
+        store: stores.swap_remove(last),
+        session: S::session(kept),
+        room,
+        outcomes,
+    };
+    (time, left)
+}
+
+/// Executes each command on its own store; gives the sum of the outcomes.
+fn execute_each<S: Side>(
+    commands: &[(Vec<u8>, usize)],
+    stores: &mut [Vec<u8>],
+    kept: &mut S::Kept,
+    room: &mut [u8],
+) -> u64 {
+    let mut outcomes = 0;
+    for ((command, size), store) in commands.iter().zip(stores) {
+        outcomes += u64::from(S::execute(command, store, kept, &mut room[..*size]));
+    }
+    outcomes
+}
+
+/// Puts back the bytes that each command is to meet as they were at the beginning.
+fn put_back(store: &mut [u8], begin: &Beginning) {
+    let part = begin.put_back.clone();
+    store[part.clone()].copy_from_slice(&begin.store[part]);
+}
+
+fn put_all_back(stores: &mut [Vec<u8>], begin: &Beginning) {
+    for store in stores {
+        put_back(store, begin);
+    }
+}
+
+/// The nanoseconds of it alone, so many times.
+fn time_of_putting_back(times: usize, stores: &mut [Vec<u8>], begin: &Beginning) -> f64 {
+    let start = Clock::start();
+    for _ in 0..times {
+        put_all_back(black_box(stores), black_box(begin));
+    }
+    start.nanoseconds()
+}
+
+/// Compares the two sides after every command; gives what both leave.
+fn compare(name: &str, list: &List, begin: &Beginning) -> Left {
     let mut stores = [begin.store.clone(), begin.store.clone()];
     let mut rooms = [vec![0xA5; ROOM], vec![0xA5; ROOM]];
     let mut ours = Ours::keep(begin.session);
     let mut theirs = begin.session;
+    let mut sum = 0;
     for (place, (command, size)) in list.iter().enumerate() {
+        stores.iter_mut().for_each(|store| put_back(store, begin));
         let outcomes = [
             Ours::execute(command, &mut stores[0], &mut ours, &mut rooms[0][..*size]),
             Reference::execute(command, &mut stores[1], &mut theirs, &mut rooms[1][..*size]),
@@ -93,6 +161,14 @@ fn compare(name: &str, list: &List, begin: &Beginning) {
             alike,
             "{name}: the two sides differ at command {place}: {command:02X?}"
         );
+        sum += u64::from(outcomes[0]);
+    }
+    let ([store, _], [room, _]) = (stores, rooms);
+    Left {
+        store,
+        session: theirs,
+        room,
+        outcomes: sum,
     }
 }
 
@@ -102,6 +178,7 @@ fn expect(name: &str, list: &List, begin: &Beginning, code: Option<u8>) {
     let mut room = vec![0x00; ROOM];
     let mut kept = begin.session;
     for (command, size) in list {
+        put_back(&mut store, begin);
         Reference::execute(command, &mut store, &mut kept, &mut room[..*size]);
         let status = if code.is_some() { 0xFF } else { 0x00 };
         let right = room[0] == status && kept.error == code.unwrap_or(0);
@@ -166,8 +243,7 @@ fn measure(rows: &[Timed], count: usize) -> Vec<Point> {
 
 /// A row of a list, after which both sides must leave the same.
 fn over<'a>(name: String, size: usize, list: &'a List, begin: &'a Beginning) -> Timed<'a> {
-    compare(&name, list, begin);
-    let left = Rc::new(run::<Reference>(list, begin).1);
+    let left = Rc::new(compare(&name, list, begin));
     let [here, there] = [left.clone(), left];
     Timed {
         name,
@@ -192,7 +268,7 @@ struct Measured {
 /// The mixed list on each store.
 fn mixed(stores: &[Measured]) -> Vec<Pair> {
     let random = &mut Random::new(1);
-    heading("10,000 commands of every kind", "store");
+    heading("Mixed lists", "10,000 commands of every kind, on a store");
     let mut lists = Vec::new();
     for store in stores {
         lists.push(lists::mixed(&store.begin, random));
@@ -228,14 +304,13 @@ const SHAPES: [&str; 3] = [
     "largest maximum, all in use",
 ];
 
-/// A row of a store's check alone, by its records.
-fn checked(count: usize, maximum: usize, in_use: bool, random: &mut Random) -> Timed<'static> {
-    let store = Rc::new(stores::alike(count, maximum, in_use, random));
+/// A row of a store's check alone.
+fn checked(name: String, size: usize, store: Vec<u8>) -> Timed<'static> {
+    let store = Rc::new(store);
     let [here, there] = [store.clone(), store];
-    let used = if in_use { "all" } else { "none" };
     Timed {
-        name: format!("{count} × maximum {maximum}, {used} in use"),
-        size: count,
+        name,
+        size,
         ours: Box::new(move || check::<Ours>(&here)),
         theirs: Box::new(move || check::<Reference>(&there)),
     }
@@ -249,7 +324,10 @@ fn checks() -> [Series; 3] {
     for count in [1, 2, 4, 8, 16, 32] {
         let large = (16_384 / count - 96).min(LARGEST);
         for (maximum, in_use) in [(16, false), (large, false), (large, true)] {
-            rows.push(checked(count, maximum, in_use, random));
+            let used = if in_use { "all" } else { "none" };
+            let name = format!("{count} × maximum {maximum}, {used} in use");
+            let store = stores::alike(count, maximum, in_use, random);
+            rows.push(checked(name, count, store));
         }
     }
     let points = measure(&rows, DRAWN_ROUNDS);
@@ -293,6 +371,87 @@ fn sizes(begin: &Beginning) -> [Series; 2] {
         name,
         points: points.to_vec(),
     })
+}
+
+/// The stores of full queues: how many, their maximum, the bodies of their fares.
+const FULL_QUEUES: [(usize, usize, usize); 4] = [
+    (1, LARGEST, 1),
+    (1, LARGEST, 200),
+    (32, 416, 1),
+    (32, 416, 198),
+];
+
+/// The time of the check of a store of full queues, and of the same bytes as data.
+fn queue_checks() {
+    let random = &mut Random::new(5);
+    let mut rows = Vec::new();
+    heading("Check of a store of full queues alone", "records");
+    for (count, maximum, body) in FULL_QUEUES {
+        let fares = Fares::filling(maximum, body);
+        let store = stores::alike_queues(count, maximum, fares, random);
+        let name = format!("{count} × maximum {maximum}, {}", fares.words());
+        let (data_name, data) = (format!("{name}, as data"), stores::as_data(&store));
+        rows.push(checked(name, count, store));
+        rows.push(checked(data_name, count, data));
+    }
+    measure(&rows, DRAWN_ROUNDS);
+}
+
+/// The queues by their fares: how many, and the bytes of a body.
+const FILLS: [(usize, usize); 7] = [
+    (0, 1),
+    (10, 1),
+    (50, 1),
+    (150, 1),
+    (1, 200),
+    (3, 200),
+    (7, 200),
+];
+
+/// The commands to a queue with these fares: an append, and acknowledgements of the first, the middle and the last one.
+fn to_queue(number: u16, fares: Fares, random: &mut Random) -> Vec<(&'static str, Vec<u8>)> {
+    let count = fares.count as u32;
+    let acknowledged = [
+        ("acknowledge the first", count),
+        ("acknowledge the middle", count / 2 + 1),
+        ("acknowledge the last", 1),
+    ];
+    let mut commands = vec![("append 16 bytes", lists::append(number, 16, random))];
+    for (name, behind) in acknowledged.into_iter().take(fares.count) {
+        commands.push((name, lists::acknowledge(number, fares.next - behind)));
+    }
+    commands
+}
+
+/// Lists of one command to a queue each, by its fares.
+fn lists_by_fares() -> Vec<(String, List, Rc<Beginning>)> {
+    let random = &mut Random::new(6);
+    let mut made = Vec::new();
+    for (count, body) in FILLS {
+        let fares = Fares::some(count, body);
+        let begin = Rc::new(stores::one_queue(fares, random));
+        let commands = to_queue(begin.queues[0].number, fares, random);
+        made.extend(commands.into_iter().map(|(name, command)| {
+            let name = format!("{name}, {}", fares.words());
+            (name, vec![(command, ROOM); SIZED_COMMANDS], begin.clone())
+        }));
+    }
+    made
+}
+
+/// The time of an append and of an acknowledgement by the fares of a queue, on a store of that queue alone.
+fn by_fares() {
+    heading(
+        "A command to a queue of maximum 1,500, by its fares",
+        "command",
+    );
+    let made = lists_by_fares();
+    let mut rows = Vec::new();
+    for (name, list, begin) in &made {
+        expect(name, list, begin, None);
+        rows.push(over(name.clone(), 0, list, begin));
+    }
+    measure(&rows, DRAWN_ROUNDS);
 }
 
 fn with_room(commands: impl Iterator<Item = Vec<u8>>) -> List {
@@ -349,7 +508,10 @@ fn main() {
         },
     ];
     let mixed = mixed(&stores);
-    let (checked, sized) = (checks(), sizes(&stores[0].begin));
+    let checked = checks();
+    queue_checks();
+    let sized = sizes(&stores[0].begin);
+    by_fares();
     for store in &stores {
         kinds(&format!("Each kind alone, {}", store.title), &store.begin);
     }

@@ -1,12 +1,22 @@
 //! The stores that are measured, with what the lists need to know of them.
 
+use std::ops::Range;
+
 use reference::counter::{self, Counter, Direction};
 use reference::factory::{FACTORY_OBJECTS, FACTORY_SIZE};
 use reference::generator::random::Random;
 use reference::store::{RecordKind, DATA, LARGEST_STORE, SLOT_SIZE};
 use reference::{fresh_session, make_factory_store, Session};
 
+use crate::queues::{Fares, Queue, LONGEST_BODY, NO_MORE};
+
 pub const LARGEST: usize = 1_500;
+
+/// The first object of a store that is not the factory's.
+const FIRST: u16 = 0xF200;
+
+/// Where a record has its kind.
+const KIND: usize = 2;
 
 /// An object: its number, its maximum, its bytes in use.
 #[derive(Clone, Copy)]
@@ -29,6 +39,12 @@ pub struct Beginning {
     pub counted: Vec<(u16, Counter)>,
     /// Counters of both directions, at their thresholds or past them, never written to.
     pub reached: Vec<(u16, Counter)>,
+    /// Queues that take fares and have them acknowledged.
+    pub queues: Vec<Queue>,
+    /// Queues that have given their last number, never changed.
+    pub ended: Vec<Queue>,
+    /// The bytes of the store that are put back before each command, so that all meet the same queue.
+    pub put_back: Range<usize>,
     /// An object that grants nothing.
     pub locked: Object,
     /// The expression that a metadata write brings.
@@ -65,6 +81,16 @@ pub fn record(object: Object, expressions: [&[u8]; 3], random: &mut Random) -> V
     record_of(RecordKind::Data, object, expressions, &data)
 }
 
+fn queue_record(
+    object: Object,
+    fares: Fares,
+    expressions: [&[u8]; 3],
+    random: &mut Random,
+) -> Vec<u8> {
+    let data = fares.to_data(random);
+    record_of(RecordKind::Queue, object, expressions, &data)
+}
+
 fn counter_record(object: Object, counter: Counter, expressions: [&[u8]; 3]) -> Vec<u8> {
     let kind = RecordKind::Counter(counter.direction);
     record_of(kind, object, expressions, &counter.to_data())
@@ -94,10 +120,29 @@ fn record_of(kind: RecordKind, object: Object, expressions: [&[u8]; 3], data: &[
     bytes
 }
 
-fn opened() -> Session {
-    Session {
+/// A store in which no object plays a part yet.
+fn beginning(store: Vec<u8>) -> Beginning {
+    let session = Session {
         opened: true,
         ..fresh_session()
+    };
+    let locked = Object {
+        number: 0,
+        maximum: 0,
+        used: 0,
+    };
+    Beginning {
+        store,
+        session,
+        read: Vec::new(),
+        written: Vec::new(),
+        counted: Vec::new(),
+        reached: Vec::new(),
+        queues: Vec::new(),
+        ended: Vec::new(),
+        put_back: 0..0,
+        locked,
+        sent: BEFORE_OPERATIONAL.to_vec(),
     }
 }
 
@@ -125,14 +170,10 @@ pub fn factory(random: &mut Random) -> Beginning {
     let mut written = objects[1..11].to_vec();
     written.push(objects[13]);
     Beginning {
-        store,
-        session: opened(),
         read: vec![full(0), full(12)],
         written,
-        counted: Vec::new(),
-        reached: Vec::new(),
         locked: objects[11],
-        sent: BEFORE_OPERATIONAL.to_vec(),
+        ..beginning(store)
     }
 }
 
@@ -162,23 +203,53 @@ fn counter_at(place: usize) -> Option<Counter> {
     found.map(|counter| counter.1)
 }
 
-/// The objects of a full store: two of the largest maximum, the counters, every second of the others full, the rest used in part.
+/// The queues of a full store, by their places, with their maxima: empty, half full, full of short fares and of long ones, ended.
+const QUEUES: [(usize, usize, Fares); 5] = [
+    (5, 300, fares(0, 0, 1)),
+    (10, 600, fares(1_006, 6, 42)),
+    (17, 300, fares(1_032, 32, 1)),
+    (22, 900, fares(1_004, 4, LONGEST_BODY)),
+    (26, 100, fares(NO_MORE, 2, 10)),
+];
+
+/// Of the queues that take fares, the one that is half full.
+pub const HALF_FULL: usize = 1;
+
+const fn fares(next: u32, count: usize, body: usize) -> Fares {
+    Fares { next, count, body }
+}
+
+fn queue_at(place: usize) -> Option<(usize, Fares)> {
+    let found = QUEUES.iter().find(|queue| queue.0 == place);
+    found.map(|queue| (queue.1, queue.2))
+}
+
+/// The bytes of a full store that are left to the records whose maxima are alike, and how many these are.
+fn left_to_others() -> (usize, usize) {
+    let counters = COUNTERS.len() * (DATA + counter::SIZE);
+    let queues: usize = QUEUES.iter().map(|queue| DATA + queue.1).sum();
+    let rest = LARGEST_STORE - 2 * (DATA + LARGEST) - counters - queues;
+    (rest, 30 - COUNTERS.len() - QUEUES.len())
+}
+
+/// The objects of a full store: two of the largest maximum, the counters, the queues, every second of the others full, the rest used in part.
 fn full_objects(random: &mut Random) -> Vec<Object> {
-    let rest = LARGEST_STORE - 2 * (DATA + LARGEST) - COUNTERS.len() * (DATA + counter::SIZE);
-    let others = 30 - COUNTERS.len();
+    let (rest, others) = left_to_others();
     let object = |place: usize| {
-        let maximum = match place {
-            28 | 29 => LARGEST,
-            31 => rest - (others - 1) * (rest / others) - DATA,
-            _ if counter_at(place).is_some() => counter::SIZE,
-            _ => rest / others - DATA,
-        };
-        let used = match counter_at(place) {
-            None if place % 2 == 1 => random.below(maximum),
-            _ => maximum,
+        let (maximum, used) = match (counter_at(place), queue_at(place)) {
+            (Some(_), _) => (counter::SIZE, counter::SIZE),
+            (_, Some((maximum, fares))) => (maximum, fares.used()),
+            _ => {
+                let maximum = match place {
+                    28 | 29 => LARGEST,
+                    31 => rest - (others - 1) * (rest / others) - DATA,
+                    _ => rest / others - DATA,
+                };
+                (maximum, [maximum, random.below(maximum)][place % 2])
+            }
         };
         Object {
-            number: 0xF200 + 3 * place as u16,
+            number: FIRST + 3 * place as u16,
             maximum,
             used,
         }
@@ -199,39 +270,98 @@ pub fn half(expressions: [&'static [u8]; 3], random: &mut Random) -> Beginning {
 /// The same, with the expressions of each place; a metadata write brings the first change expression.
 fn full_by(expressions: impl Fn(usize) -> [&'static [u8]; 3], random: &mut Random) -> Beginning {
     let objects = full_objects(random);
-    let mut store = Vec::new();
-    let (mut read, mut written) = (Vec::new(), Vec::new());
-    let (mut counted, mut reached) = (Vec::new(), Vec::new());
-    for (place, &object) in objects.iter().enumerate() {
-        if place == LOCKED {
-            store.extend(record(
-                object,
-                [NEVER, NEVER, expressions(place)[2]],
-                random,
-            ));
-        } else if let Some(counter) = counter_at(place) {
-            let counters = match counter.is_reached() {
-                true => &mut reached,
-                false => &mut counted,
-            };
-            counters.push((object.number, counter));
-            store.extend(counter_record(object, counter, expressions(place)));
-        } else {
-            [&mut read, &mut written][place % 2].push(object);
-            store.extend(record(object, expressions(place), random));
-        }
-    }
-    assert_eq!(store.len(), LARGEST_STORE);
-    Beginning {
-        store,
-        session: opened(),
-        read,
-        written,
-        counted,
-        reached,
+    let mut begin = Beginning {
         locked: objects[LOCKED],
         sent: expressions(0)[0].to_vec(),
+        ..beginning(Vec::new())
+    };
+    for (place, &object) in objects.iter().enumerate() {
+        add(&mut begin, place, object, expressions(place), random);
     }
+    assert_eq!(begin.store.len(), LARGEST_STORE);
+    begin
+}
+
+/// Adds the record of a place in a full store; its object gets the part of the place.
+fn add(
+    begin: &mut Beginning,
+    place: usize,
+    object: Object,
+    expressions: [&[u8]; 3],
+    random: &mut Random,
+) {
+    let record = if place == LOCKED {
+        record(object, [NEVER, NEVER, expressions[2]], random)
+    } else if let Some(counter) = counter_at(place) {
+        let counters = match counter.is_reached() {
+            true => &mut begin.reached,
+            false => &mut begin.counted,
+        };
+        counters.push((object.number, counter));
+        counter_record(object, counter, expressions)
+    } else if let Some((_, fares)) = queue_at(place) {
+        let queues = match fares.next {
+            NO_MORE => &mut begin.ended,
+            _ => &mut begin.queues,
+        };
+        queues.push(queue(object, begin.store.len()));
+        queue_record(object, fares, expressions, random)
+    } else {
+        [&mut begin.read, &mut begin.written][place % 2].push(object);
+        record(object, expressions, random)
+    };
+    begin.store.extend(record);
+}
+
+fn queue(object: Object, at: usize) -> Queue {
+    let Object {
+        number, maximum, ..
+    } = object;
+    Queue {
+        number,
+        at,
+        maximum,
+    }
+}
+
+/// One queue of the largest maximum, put back before each command.
+pub fn one_queue(fares: Fares, random: &mut Random) -> Beginning {
+    let store = alike_queues(1, LARGEST, fares, random);
+    let queue = Queue {
+        number: FIRST,
+        at: 0,
+        maximum: LARGEST,
+    };
+    Beginning {
+        queues: vec![queue],
+        put_back: queue.record(),
+        ..beginning(store)
+    }
+}
+
+/// So many queues alike.
+pub fn alike_queues(count: usize, maximum: usize, fares: Fares, random: &mut Random) -> Vec<u8> {
+    let mut store = Vec::new();
+    for place in 0..count {
+        let object = Object {
+            number: FIRST + place as u16,
+            maximum,
+            used: fares.used(),
+        };
+        store.extend(queue_record(object, fares, SHORT_ONES, random));
+    }
+    store
+}
+
+/// A store of queues with the same bytes as data.
+pub fn as_data(queues: &[u8]) -> Vec<u8> {
+    let mut store = queues.to_vec();
+    let mut at = 0;
+    while at < store.len() {
+        store[at + KIND] = RecordKind::Data.number() as u8;
+        at += usize::from(u16::from_le_bytes([store[at], store[at + 1]]));
+    }
+    store
 }
 
 /// So many alike records, all bytes in use or none.
@@ -239,7 +369,7 @@ pub fn alike(count: usize, maximum: usize, in_use: bool, random: &mut Random) ->
     let mut store = Vec::new();
     for place in 0..count {
         let object = Object {
-            number: 0xF200 + place as u16,
+            number: FIRST + place as u16,
             maximum,
             used: if in_use { maximum } else { 0 },
         };

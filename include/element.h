@@ -12,7 +12,8 @@
  * Everything else is handled: no byte of a command, a store, a session or a room, and no length, leads to anything but the answers below.
  * Where a pointer might be NULL, call the `_checked` functions at the end of this file.
  *
- * Numbers in commands and responses, and in a counter's data, stand most significant byte first.
+ * Numbers in commands and responses, and in a counter's data, stand most significant byte first. Numbers in the store stand least significant byte
+ * first, those in a queue's data too, also where a get answers that data.
  */
 #ifndef ELEMENT_H
 #define ELEMENT_H
@@ -30,7 +31,7 @@ extern "C" {
  * that was written for the version before may have to be changed.
  */
 #define ELEMENT_VERSION_MAJOR 3
-#define ELEMENT_VERSION_MINOR 0
+#define ELEMENT_VERSION_MINOR 1
 
 /* Outcome numbers: what a call returns. */
 enum {
@@ -52,15 +53,16 @@ enum {
 enum {
     ELEMENT_NO_ERROR = 0x00,
     ELEMENT_INVALID_OBJECT = 0x01,     /* no such object */
-    ELEMENT_INVALID_PARAM = 0x03,      /* unknown Param for this Cmd, or a count of what is no counter */
+    ELEMENT_INVALID_PARAM = 0x03,      /* unknown Param for this Cmd, a count of what is no counter, or an append or acknowledge of what is no queue */
     ELEMENT_INVALID_LENGTH = 0x04,     /* the command's length, or InLen, is wrong */
-    ELEMENT_INVALID_DATA = 0x05,       /* metadata, life cycle value or application identifier not allowed */
+    ELEMENT_INVALID_DATA = 0x05,       /* metadata, life cycle value or application identifier not allowed; no fare present has the number (acknowledge) */
     ELEMENT_INTERNAL_ERROR = 0x06,     /* the store is malformed, or LcsG or LcsA is no state */
-    ELEMENT_ACCESS_DENIED = 0x07,      /* the access condition does not hold: a life cycle state, or a counter that is used up */
-    ELEMENT_BOUNDARY_EXCEEDED = 0x08,  /* offset past used (get); past the maximum, or not all of a counter (write); at the threshold, or offset not 0 (count) */
+    ELEMENT_ACCESS_DENIED = 0x07,      /* the access condition does not hold: a life cycle state, or a counter that is used up; or a write to a queue */
+    ELEMENT_BOUNDARY_EXCEEDED = 0x08,  /* offset past used (get); past the maximum, or not all of a counter (write); at the threshold, or offset not 0 (count);
+                                          the fare does not fit behind the others (append) */
     ELEMENT_INVALID_COMMAND = 0x0A,    /* unknown Cmd */
     ELEMENT_NOT_AVAILABLE = 0x0C,      /* the application is closed, or terminated */
-    ELEMENT_INSUFFICIENT_BUFFER = 0x0D /* the response does not fit the room */
+    ELEMENT_INSUFFICIENT_BUFFER = 0x0D /* the response does not fit the room; no number is left (append) */
 };
 
 /* Life cycle states. */
@@ -82,14 +84,16 @@ enum {
  *   02 set    40 erase and write   5 or more  object 2, offset 2, one byte or more      none
  *   02 set    01 metadata          4 or more  object 2, 20, L, then L bytes of fields   none
  *   02 set    02 count             5          object 2, offset 2 (0), step 1            none
+ *   02 set    04 append            3 to 202   object 2, a body of 1 to 200              none
+ *   02 set    05 acknowledge       6          object 2, number 4                        none
  *   70 open   00                   16         ELEMENT_IDENTIFIER                        none
  *   71 close  00                   0          none                                      none
  *
  * A get of data answers the bytes in use from offset on, at most length of them, and OutLen says how many: they may be fewer than length. With
  * offset equal to used there are none; an offset past used is refused with 08.
  *
- * A get of data asks the object's read expression, a write, an erase and write, a count and a set of metadata its change expression; a get of
- * metadata asks none. Each that is done may use up counters (see access expressions below): so a get of data may change the store too.
+ * A get of data asks the object's read expression, every set its change expression; a get of metadata asks none. Each that is done may use up
+ * counters (see access expressions below): so a get of data may change the store too.
  *
  * With ELEMENT_FLUSH set in Cmd, the last error becomes 0 first.
  */
@@ -102,6 +106,8 @@ enum {
     ELEMENT_DATA = 0x00,           /* get, set; open and close have the same Param */
     ELEMENT_METADATA = 0x01,       /* get, set */
     ELEMENT_COUNT = 0x02,          /* set */
+    ELEMENT_APPEND = 0x04,         /* set */
+    ELEMENT_ACKNOWLEDGE = 0x05,    /* set */
     ELEMENT_ERASE_AND_WRITE = 0x40 /* set */
 };
 
@@ -141,16 +147,41 @@ enum {
 };
 
 /*
- * Kinds of records. A counter is an object of 8 bytes: its value in 4, then its threshold in 4. A count moves the value by its step towards the
- * threshold, up or down by the record's kind, at most onto it, and is refused with 08 where the value is there or past it already. A write sets
- * all 8 bytes. No command makes a counter or tells a record's kind: the host's store has it.
+ * Kinds of records. No command makes a counter or a queue, or tells a record's kind: the host's store has it.
+ *
+ * A counter is an object of 8 bytes: its value in 4, then its threshold in 4. A count moves the value by its step towards the threshold, up or
+ * down by the record's kind, at most onto it, and is refused with 08 where the value is there or past it already. A write sets all 8 bytes.
+ *
+ * A queue holds fares. Its data is the next number in 4 bytes, then the fares end to end, the oldest first, up to used. A fare is
+ *
+ *   at   size     field
+ *   0    2        length: of the whole fare, so 8 + the size of its body
+ *   2    2        ELEMENT_FARE_KIND
+ *   4    4        number: one more than that of the fare before it; of the last fare, one below the next number
+ *   8    1 to 200 body
+ *
+ * all least significant byte first. An empty queue has used 4, and any next number; a new one has 0.
+ *
+ * An append puts a fare with the body and the next number behind the others, and the next number is then one more. It is refused with 08 where
+ * used + 8 + the size of the body is above the maximum, and with 0D where the next number is ELEMENT_NO_NUMBER: so the last number given is
+ * FFFFFFFE, and none is given twice. An acknowledge takes away the fare of its number and all before it, where that fare is present, and is refused
+ * with 05 where it is not; the next number stays. A get of all data (ELEMENT_WHOLE) answers next number and fares. A write and an erase and write
+ * are refused with 07, whatever the change expression says: nothing but an acknowledge takes a fare away.
  */
 enum {
     ELEMENT_KIND_DATA = 0x0001,
     ELEMENT_KIND_COUNTER_UP = 0x0002,
+    ELEMENT_KIND_QUEUE = 0x0003,
     ELEMENT_KIND_COUNTER_DOWN = 0x0004,
-    ELEMENT_COUNTER_SIZE = 8 /* maximum and used of every counter */
+    ELEMENT_COUNTER_SIZE = 8, /* maximum and used of every counter */
+    ELEMENT_QUEUE_HEAD = 4,   /* the next number, before the fares: the least maximum of a queue */
+    ELEMENT_FARE_HEAD = 8,    /* what stands before the body in a fare */
+    ELEMENT_FARE_KIND = 0x0001,
+    ELEMENT_LARGEST_BODY = 200
 };
+
+/* The next number at which an append is refused. */
+#define ELEMENT_NO_NUMBER 0xFFFFFFFFU
 
 /* Metadata tags. A field is its tag, its length in one byte, its value. */
 enum {

@@ -1,6 +1,6 @@
 /*
  * Every misuse of the C interface that its types allow, each with the answer that include/element.h and docs/FORMATS.md give, written by hand;
- * then the header's helpers and constants, short reads, and counters.
+ * then the header's helpers and constants, short reads, counters, and queues.
  * Prints the number of checks; at the first that fails, what was expected, and exits 1.
  *
  *   gcc -std=c99 -O2 -Iinclude tests/misuse.c target/staticlib/libfirmware.a -o misuse
@@ -363,10 +363,13 @@ static void check_constants(void)
         ELEMENT_ALWAYS, ELEMENT_CONDITION_COUNTER, ELEMENT_CONDITION_LCSG, ELEMENT_CONDITION_LCSA, ELEMENT_CONDITION_LCSO, ELEMENT_EQUAL, ELEMENT_GREATER, ELEMENT_LESS,
         ELEMENT_AND, ELEMENT_OR, ELEMENT_NEVER
     };
-    expect(ELEMENT_VERSION_MAJOR == 3 && ELEMENT_VERSION_MINOR == 0, "version 3.0");
+    expect(ELEMENT_VERSION_MAJOR == 3 && ELEMENT_VERSION_MINOR == 1, "version 3.1");
     expect(ELEMENT_WHOLE == 0xFFFF, "the length that asks for all");
-    expect(ELEMENT_KIND_DATA == 1 && ELEMENT_KIND_COUNTER_UP == 2 && ELEMENT_KIND_COUNTER_DOWN == 4, "the kinds of records");
+    expect(ELEMENT_KIND_DATA == 1 && ELEMENT_KIND_COUNTER_UP == 2 && ELEMENT_KIND_QUEUE == 3 && ELEMENT_KIND_COUNTER_DOWN == 4, "the kinds of records");
     expect(ELEMENT_COUNT == 2 && ELEMENT_COUNTER_SIZE == 8, "the Param of a count and the size of a counter");
+    expect(ELEMENT_APPEND == 4 && ELEMENT_ACKNOWLEDGE == 5, "the Params of an append and an acknowledge");
+    expect(ELEMENT_QUEUE_HEAD == 4 && ELEMENT_FARE_HEAD == 8 && ELEMENT_FARE_KIND == 1 && ELEMENT_LARGEST_BODY == 200, "the sizes of a queue");
+    expect(ELEMENT_NO_NUMBER == UINT32_MAX, "the number that no fare has");
     expect(memcmp(tags, "\x20\xC0\xC4\xC5\xD0\xD1\xD3", sizeof tags) == 0, "the metadata tags");
     expect(memcmp(expressions, "\x00\x40\x70\xE0\xE1\xFA\xFB\xFC\xFD\xFE\xFF", sizeof expressions) == 0, "the bytes of expressions");
     expect(ELEMENT_MAXIMUM_F1DX == 140 && ELEMENT_MAXIMUM_F1EX == 1500 && ELEMENT_FACTORY_OBJECTS == 14, "the factory's sizes");
@@ -1070,6 +1073,7 @@ static void check_counter_writes(void)
             }
 }
 
+/* Of kind 03 these eight bytes are no queue. */
 static void check_kinds(void)
 {
     for (unsigned kind = 0; kind < 256; kind++) {
@@ -1095,6 +1099,264 @@ static void check_kinds(void)
                 expect(element_check_store(record, (size_t)(ELEMENT_RECORD_HEAD + maximum)) == formed,
                     "kind %u with maximum %u and used %u %s", kind, maximum, used, formed ? "well formed" : "malformed");
             }
+}
+
+/* Queues: F1D0 with the fares 5 (A1) and 6 (B1 B2) in 64 bytes, and F1D1 of 8 bytes of data; each always granted. */
+
+enum {
+    QUEUE_MAXIMUM = 64,
+    QUEUE_RECORD = ELEMENT_RECORD_HEAD + QUEUE_MAXIMUM,
+    QUEUE = 0xF1D0,
+    NO_QUEUE = 0xF1D1,
+    FRONT = ELEMENT_HEADER + 2, /* of an append and an acknowledge: header and object */
+    LONGEST_BODY = ELEMENT_LARGEST_COMMAND - FRONT
+};
+
+static const uint8_t TWO_FARES[] = {
+    0x07, 0x00, 0x00, 0x00,
+    0x09, 0x00, 0x01, 0x00, 0x05, 0x00, 0x00, 0x00, 0xA1,
+    0x0A, 0x00, 0x01, 0x00, 0x06, 0x00, 0x00, 0x00, 0xB1, 0xB2
+};
+static uint8_t queues[QUEUE_RECORD + COUNTER_RECORD];
+static uint8_t queues_due[sizeof queues];
+
+/* What stands in a record of a queue: its head and this data. */
+static void put_queue(uint8_t *record, const uint8_t *data, size_t used)
+{
+    memset(record, 0, QUEUE_RECORD);
+    record[0] = QUEUE_RECORD;
+    record[2] = ELEMENT_KIND_QUEUE;
+    record[4] = QUEUE & 0xFF;
+    record[5] = QUEUE >> 8;
+    record[6] = QUEUE_MAXIMUM;
+    record[8] = (uint8_t)used;
+    record[10] = ELEMENT_CREATION;
+    record[12] = record[40] = record[68] = 1;
+    memcpy(record + ELEMENT_RECORD_HEAD, data, used);
+}
+
+/* What is due is the same. */
+static void begin_queue(const uint8_t *data, size_t used)
+{
+    begin_open();
+    put_queue(queues, data, used);
+    put_counter(queues + QUEUE_RECORD, ELEMENT_KIND_DATA, NO_QUEUE, 1, 2);
+    memcpy(queues_due, queues, sizeof queues);
+}
+
+static void begin_fares(void)
+{
+    begin_queue(TWO_FARES, sizeof TWO_FARES);
+}
+
+/* Whether the command is done (number 0), or refused with the number, and leaves the store that is due. */
+static bool on_queues(const uint8_t *command, size_t length, uint8_t number)
+{
+    bool answered = element_execute(command, length, queues, sizeof queues, &now.session, now.room, ROOM) == 0;
+    bool response = number == 0 ? left(DONE, sizeof DONE, 1, OLD_ERROR) : refused(larger(number, OLD_ERROR));
+    return answered && response && memcmp(queues, queues_due, sizeof queues) == 0;
+}
+
+/* A set of so many bytes C3 behind the object. */
+static bool sets(uint8_t param, unsigned object, size_t size, uint8_t number)
+{
+    static uint8_t command[FRONT + LONGEST_BODY + 1];
+    memset(command, 0xC3, sizeof command);
+    command[0] = ELEMENT_SET;
+    command[1] = param;
+    command[2] = (uint8_t)((2 + size) >> 8);
+    command[3] = (uint8_t)(2 + size);
+    command[4] = (uint8_t)(object >> 8);
+    command[5] = (uint8_t)object;
+    return on_queues(command, FRONT + size, number);
+}
+
+static bool appends(unsigned object, size_t size, uint8_t number)
+{
+    return sets(ELEMENT_APPEND, object, size, number);
+}
+
+static bool acknowledges(unsigned object, uint32_t fare, uint8_t number)
+{
+    uint8_t command[FRONT + 4] = {ELEMENT_SET, ELEMENT_ACKNOWLEDGE, 0x00, 0x06, (uint8_t)(object >> 8), (uint8_t)object};
+    put_four(command + FRONT, fare);
+    return on_queues(command, sizeof command, number);
+}
+
+/* A body of each size that a command can have: 41 bytes are left, 8 of them for the head of the fare. */
+static void check_appends(void)
+{
+    static const uint8_t head[] = {0x00, 0x00, 0x01, 0x00, 0x07, 0x00, 0x00, 0x00};
+    for (size_t size = 0; size <= LONGEST_BODY + 1; size++) {
+        uint8_t *fare = queues_due + ELEMENT_RECORD_HEAD + sizeof TWO_FARES;
+        bool fits = size >= 1 && size <= 33;
+        begin_fares();
+        if (fits) {
+            queues_due[8] = (uint8_t)(sizeof TWO_FARES + ELEMENT_FARE_HEAD + size);
+            queues_due[ELEMENT_RECORD_HEAD] = 0x08;
+            memcpy(fare, head, sizeof head);
+            fare[0] = (uint8_t)(ELEMENT_FARE_HEAD + size);
+            memset(fare + ELEMENT_FARE_HEAD, 0xC3, size);
+        }
+        uint8_t number = fits ? 0x00 : size == 0 || size > ELEMENT_LARGEST_BODY ? 0x04 : 0x08;
+        expect(appends(QUEUE, size, number), "number %02X for an append of %zu bytes", number, size);
+    }
+}
+
+static void check_acknowledgements(void)
+{
+    static const uint8_t second[] = {0x07, 0x00, 0x00, 0x00, 0x0A, 0x00, 0x01, 0x00, 0x06, 0x00, 0x00, 0x00, 0xB1, 0xB2};
+    static const uint32_t absent[] = {0, 4, 7, 8, 0x05000000, 0x0105, ELEMENT_NO_NUMBER};
+    begin_fares();
+    put_queue(queues_due, second, sizeof second);
+    expect(acknowledges(QUEUE, 5, 0x00), "the second fare left after an acknowledge of the first");
+    expect(acknowledges(QUEUE, 5, 0x05), "refusal 05 for an acknowledge that is repeated");
+    begin_fares();
+    put_queue(queues_due, TWO_FARES, ELEMENT_QUEUE_HEAD);
+    expect(acknowledges(QUEUE, 6, 0x00), "no fare left after an acknowledge of the last, and the next number kept");
+    for (size_t i = 0; i < sizeof absent / sizeof absent[0]; i++) {
+        begin_fares();
+        expect(acknowledges(QUEUE, absent[i], 0x05), "refusal 05 for an acknowledge of %lu", (unsigned long)absent[i]);
+    }
+}
+
+static void check_number_sizes(void)
+{
+    for (size_t size = 0; size <= LONGEST_BODY + 1; size++) {
+        begin_fares();
+        expect(size == 4 || sets(ELEMENT_ACKNOWLEDGE, QUEUE, size, 0x04), "refusal 04 for an acknowledge with a number of %zu bytes", size);
+    }
+}
+
+/* The last number is FFFFFFFE. A fare that does not fit is 08 before it is 0D. */
+static void check_last_number(void)
+{
+    static const uint8_t last[] = {0xFE, 0xFF, 0xFF, 0xFF};
+    static const uint8_t given[] = {0xFF, 0xFF, 0xFF, 0xFF, 0x09, 0x00, 0x01, 0x00, 0xFE, 0xFF, 0xFF, 0xFF, 0xC3};
+    begin_queue(last, sizeof last);
+    put_queue(queues_due, given, sizeof given);
+    expect(appends(QUEUE, 1, 0x00), "the number FFFFFFFE given");
+    begin_queue(given, sizeof given);
+    expect(appends(QUEUE, 1, 0x0D), "refusal 0D where no number is left");
+    begin_queue(given, sizeof given);
+    expect(appends(QUEUE, 100, 0x08), "refusal 08 for the maximum before 0D for the number");
+    begin_queue(given, sizeof given);
+    expect(acknowledges(QUEUE, ELEMENT_NO_NUMBER, 0x05), "refusal 05 for an acknowledge of the next number");
+    begin_queue(given, sizeof given);
+    put_queue(queues_due, given, ELEMENT_QUEUE_HEAD);
+    expect(acknowledges(QUEUE, ELEMENT_NO_NUMBER - 1, 0x00), "the fare FFFFFFFE acknowledged");
+    expect(appends(QUEUE, 1, 0x0D), "refusal 0D for an empty queue without a number");
+}
+
+static void check_no_queue(void)
+{
+    static const struct { unsigned object; uint8_t number; } cases[] = {
+        {NO_QUEUE, 0x03}, {ELEMENT_LCSG, 0x03}, {ELEMENT_LCSA, 0x03}, {ELEMENT_LAST_ERROR, 0x07}, {0xF1D2, 0x01}
+    };
+    for (size_t i = 0; i < sizeof cases / sizeof cases[0]; i++) {
+        begin_fares();
+        expect(appends(cases[i].object, 4, cases[i].number) && acknowledges(cases[i].object, 5, cases[i].number),
+            "refusal %02X for an append and an acknowledge of %04X", cases[i].number, cases[i].object);
+        begin_fares();
+        expect(appends(cases[i].object, 0, 0x04) && appends(cases[i].object, 201, 0x04), "refusal 04 for the body before %02X", cases[i].number);
+    }
+}
+
+static void check_queue_gets(void)
+{
+    for (uint8_t param = ELEMENT_APPEND; param <= ELEMENT_ACKNOWLEDGE; param++) {
+        const uint8_t get[] = {ELEMENT_GET, param, 0x00, 0x06, 0xF1, 0xD0, 0x00, 0x00, 0x00, 0x05};
+        begin_fares();
+        expect(on_queues(get, sizeof get, 0x03), "refusal 03 for a get with Param %02X", param);
+    }
+}
+
+/* The change expression comes before all that an append and an acknowledge may be refused for. */
+static void check_queue_access(void)
+{
+    begin_fares();
+    queues[13] = queues_due[13] = ELEMENT_NEVER;
+    queues[QUEUE_RECORD + 13] = queues_due[QUEUE_RECORD + 13] = ELEMENT_NEVER;
+    expect(appends(QUEUE, 1, 0x07) && appends(QUEUE, 200, 0x07) && appends(NO_QUEUE, 1, 0x07), "refusal 07 before 08 and 03 for an append");
+    expect(acknowledges(QUEUE, 5, 0x07) && acknowledges(QUEUE, 9, 0x07) && acknowledges(NO_QUEUE, 5, 0x07),
+        "refusal 07 before 05 and 03 for an acknowledge");
+}
+
+/* Of a queue a write is 07 though its change expression is always, at each offset and of each size; a count is 03. */
+static void check_queue_writes(void)
+{
+    for (unsigned offset = 0; offset <= QUEUE_MAXIMUM + 1; offset++) {
+        uint8_t write[FRONT + 2 + sizeof TWO_FARES] = {ELEMENT_SET, ELEMENT_DATA, 0x00, 4 + sizeof TWO_FARES, 0xF1, 0xD0, 0x00, (uint8_t)offset};
+        memcpy(write + FRONT + 2, TWO_FARES, sizeof TWO_FARES);
+        begin_fares();
+        expect(on_queues(write, sizeof write, 0x07), "refusal 07 for a write at %u of a queue", offset);
+        write[1] = ELEMENT_ERASE_AND_WRITE;
+        expect(on_queues(write, sizeof write, 0x07), "refusal 07 for an erase and write at %u of a queue", offset);
+        write[3] = 5;
+        expect(on_queues(write, FRONT + 3, 0x07), "refusal 07 for an erase and write of a byte at %u of a queue", offset);
+    }
+    static const uint8_t count[] = {ELEMENT_SET, ELEMENT_COUNT, 0x00, 0x05, 0xF1, 0xD0, 0x00, 0x00, 0x01};
+    begin_fares();
+    expect(on_queues(count, sizeof count, 0x03), "refusal 03 for a count of a queue");
+}
+
+/* A queue is read as other data is. */
+static void check_queue_reads(void)
+{
+    static const uint8_t get[] = {ELEMENT_GET, ELEMENT_DATA, 0x00, 0x06, 0xF1, 0xD0, 0x00, 0x00, ELEMENT_WHOLE >> 8, ELEMENT_WHOLE & 0xFF};
+    static const uint8_t past[] = {ELEMENT_GET, ELEMENT_DATA, 0x00, 0x06, 0xF1, 0xD0, 0x00, sizeof TWO_FARES + 1, 0x00, 0x01};
+    uint8_t answer[ELEMENT_HEADER + sizeof TWO_FARES] = {0x00, 0x00, 0x00, sizeof TWO_FARES};
+    memcpy(answer + ELEMENT_HEADER, TWO_FARES, sizeof TWO_FARES);
+    begin_fares();
+    expect(element_execute(get, sizeof get, queues, sizeof queues, &now.session, now.room, ROOM) == 0 && left(answer, sizeof answer, 1, OLD_ERROR),
+        "all bytes of a queue");
+    begin_fares();
+    expect(on_queues(past, sizeof past, 0x08), "refusal 08 past the bytes of a queue");
+}
+
+/* A byte of the two fares changed: what is no queue by the header's words makes the store malformed. */
+static void check_queue_forms(void)
+{
+    static const struct { size_t at; uint8_t byte; const char *what; } cases[] = {
+        {0, 6, "a next number that is present"}, {0, 8, "a next number two above the last"}, {3, 1, "a next number far above the last"},
+        {4, 8, "a fare without a body"}, {4, 10, "a fare that ends in the next one"}, {5, 1, "a fare of over 208 bytes"}, {6, 2, "a fare of kind 0002"},
+        {7, 1, "a fare of kind 0101"}, {8, 6, "two fares of one number"}, {8, 4, "a number left out"}, {13, 11, "a fare that ends behind used"},
+        {13, 9, "a byte between the last fare and used"}, {17, 5, "two fares of one number"}, {17, 7, "a fare with the next number"}
+    };
+    for (size_t i = 0; i < sizeof cases / sizeof cases[0]; i++) {
+        begin_fares();
+        expect(element_check_store(queues, sizeof queues), "two fares well formed");
+        queues[ELEMENT_RECORD_HEAD + cases[i].at] = cases[i].byte;
+        expect(!element_check_store(queues, sizeof queues), "%s malformed", cases[i].what);
+    }
+}
+
+/* Two fares cut short, or followed by a byte. Without a fare any next number is well formed. */
+static void check_queue_ends(void)
+{
+    for (size_t used = 0; used <= sizeof TWO_FARES; used++) {
+        bool formed = used == ELEMENT_QUEUE_HEAD || used == sizeof TWO_FARES;
+        begin_queue(TWO_FARES, used);
+        expect(element_check_store(queues, sizeof queues) == formed, "%zu bytes of two fares %s", used, formed ? "well formed" : "malformed");
+    }
+    begin_fares();
+    queues[ELEMENT_RECORD_HEAD + sizeof TWO_FARES] = 1;
+    expect(!element_check_store(queues, sizeof queues), "a byte behind the fares malformed");
+}
+
+static void check_queues(void)
+{
+    check_appends();
+    check_acknowledgements();
+    check_number_sizes();
+    check_last_number();
+    check_no_queue();
+    check_queue_gets();
+    check_queue_access();
+    check_queue_writes();
+    check_queue_reads();
+    check_queue_forms();
+    check_queue_ends();
 }
 
 /* Lists whose sizes do not fit. */
@@ -1266,6 +1528,7 @@ int main(void)
     check_counter_reads();
     check_counter_writes();
     check_kinds();
+    check_queues();
     check_list_sizes();
     check_list_rest();
     check_list_against_single();

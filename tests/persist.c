@@ -1,6 +1,7 @@
 /*
  * Cuts the power at every byte that examples/persist.c writes or erases, starts again and loads: the state before or after, whole, is found; also
- * where a get has changed the store. Then the same with a single copy and no marker, which is torn.
+ * where a get has changed the store. Then the same with a single copy and no marker, which is torn. After a cut in the save of an append or an
+ * acknowledge the host repeats it, and has each fare once.
  *
  * usage: persist [STRIDE]      every byte, or every STRIDE-th
  */
@@ -378,6 +379,83 @@ static void check_get(long stride)
     printf("%d gets that use up a counter: each step is there after a reset, and gets that change nothing write nothing\n", THRESHOLD);
 }
 
+/* A queue. */
+
+enum {
+    NEXT_AT = ELEMENT_RECORD_HEAD, /* the first byte of the next number of F1D0, the first record */
+    SOME = 16                      /* the stride of the cuts */
+};
+
+static const uint8_t APPEND[] = {ELEMENT_SET, ELEMENT_APPEND, 0, 6, 0xF1, 0xD0, 'F', 'A', 'R', 'E'};
+static const uint8_t ACKNOWLEDGE[] = {ELEMENT_SET, ELEMENT_ACKNOWLEDGE, 0, 6, 0xF1, 0xD0, 0, 0, 0, 1};
+
+/* The factory's store with F1D0 an empty queue, then two fares in it. */
+static void make_queue(element *e)
+{
+    e->session = element_fresh_session();
+    e->session.opened = 1;
+    element_make_factory_store(e->store, STORE);
+    e->store[2] = ELEMENT_KIND_QUEUE;
+    e->store[8] = ELEMENT_QUEUE_HEAD;
+    send(e, APPEND, sizeof APPEND);
+    send(e, APPEND, sizeof APPEND);
+}
+
+/* The terminal has no answer: it reads the next number, and appends only where that has not risen. */
+static void repeat_append(void)
+{
+    now.session.opened = 1;
+    if (now.store[NEXT_AT] == old.store[NEXT_AT])
+        send(&now, APPEND, sizeof APPEND);
+}
+
+/* It acknowledges again in any case: done where the first one was not kept, else 05. */
+static void repeat_acknowledge(void)
+{
+    uint8_t due = is_now(&old) ? ELEMENT_NO_ERROR : ELEMENT_INVALID_DATA;
+    now.session.opened = 1;
+    element_execute(ACKNOWLEDGE, sizeof ACKNOWLEDGE, now.store, STORE, &now.session, room, sizeof room);
+    expect(now.session.error == due, "%02X for the acknowledge that is repeated", (unsigned)due);
+}
+
+/* A cut in the save of a command, then the command again: the store is as after a save that ended. */
+static unsigned check_repeated(void (*repeat)(void), long stride)
+{
+    static uint8_t before[FLASH];
+    unsigned cuts = 0;
+    memcpy(before, flash, FLASH);
+    long total = steps_of(keep, &new);
+    for (long steps = 0; steps <= total; steps += SOME * stride, cuts++) {
+        torn = cuts % 2 == 1;
+        memcpy(flash, before, FLASH);
+        save_until(steps, keep, &new);
+        restart();
+        repeat();
+        expect(memcmp(now.store, new.store, STORE) == 0, "each fare once after a cut at step %ld and the command again", steps);
+    }
+    memcpy(flash, before, FLASH);
+    save_whole(keep, &new);
+    restart();
+    repeat();
+    expect(memcmp(now.store, new.store, STORE) == 0, "each fare once after a save that ended and the command again");
+    return cuts + 1;
+}
+
+static void check_queue(long stride)
+{
+    unsigned cuts;
+    memset(flash, FLASH_ERASED, FLASH);
+    make_queue(&old);
+    save_whole(keep, &old);
+    new = old;
+    send(&new, APPEND, sizeof APPEND);
+    cuts = check_repeated(repeat_append, stride);
+    old = new;
+    send(&new, ACKNOWLEDGE, sizeof ACKNOWLEDGE);
+    cuts += check_repeated(repeat_acknowledge, stride);
+    printf("an append and an acknowledge, the save cut at some bytes, then repeated: each fare is there once, %u times of %u\n", cuts, cuts);
+}
+
 int main(int arguments, char **words)
 {
     long stride = arguments > 1 ? strtol(words[1], NULL, 10) : 1;
@@ -393,5 +471,6 @@ int main(int arguments, char **words)
     check_damage(stride);
     check_single();
     check_get(stride);
+    check_queue(stride);
     return 0;
 }

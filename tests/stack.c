@@ -19,7 +19,8 @@ enum {
     GAP = 512, /* between the switch of stacks and the call, so that the switch back overwrites nothing of it */
     ROUNDS = 10000,
     LIST = 64,
-    LARGE = 552, /* with it, 24 records of data and 8 counters are the largest store */
+    LARGE = 552, /* with it, 24 records of data or queues and 8 counters are the largest store */
+    FARES = 20,  /* of a queue, at most */
     SESSION_OBJECTS = 3
 };
 
@@ -34,8 +35,8 @@ static size_t spaces[LIST];
 static uint8_t outcomes[LIST];
 static size_t command_len, room_len, count;
 
-/* Commands that were done, counts and gets that used up a counter among them, and refused with a number: so that every kind is seen to be there. */
-static unsigned done, counted, stepped, refused[256];
+/* Commands that were done, some kinds of them, and refused with a number: so that every kind is seen to be there. */
+static unsigned done, counted, appended, acknowledged, stepped, refused[256];
 static uint8_t before[ELEMENT_LARGEST_STORE];
 
 /* The painted stack. */
@@ -167,7 +168,39 @@ static void put_low_first(uint8_t *at, size_t number)
     at[1] = (uint8_t)(number >> 8);
 }
 
-/* A record with expressions of up to 27 bytes, in zeroed bytes; a counter is any. Returns its size. */
+static size_t put_fare(uint8_t *at, uint32_t number, size_t body)
+{
+    put_low_first(at, ELEMENT_FARE_HEAD + body);
+    put_low_first(at + 2, ELEMENT_FARE_KIND);
+    put_low_first(at + 4, number & 0xFFFF);
+    put_low_first(at + 6, number >> 16);
+    return ELEMENT_FARE_HEAD + body;
+}
+
+/* Fares from number 0 on, or from just below the last one on. Returns the bytes in use. */
+static size_t put_queue(uint8_t *data, size_t maximum)
+{
+    uint32_t next = below(4) == 0 ? ELEMENT_NO_NUMBER - (uint32_t)below(FARES) : 0;
+    size_t used = ELEMENT_QUEUE_HEAD;
+    for (size_t fares = below(FARES); fares > 0 && next != ELEMENT_NO_NUMBER; fares--) {
+        size_t body = 1 + below(below(8) == 0 ? ELEMENT_LARGEST_BODY : 20);
+        if (used + ELEMENT_FARE_HEAD + body > maximum)
+            break;
+        used += put_fare(data + used, next++, body);
+    }
+    put_low_first(data, next & 0xFFFF);
+    put_low_first(data + 2, next >> 16);
+    return used;
+}
+
+static size_t put_counter(uint8_t *data)
+{
+    for (size_t i = 0; i < ELEMENT_COUNTER_SIZE; i++)
+        data[i] = one_of("\x00\x00\x01\xFF", 4);
+    return ELEMENT_COUNTER_SIZE;
+}
+
+/* A record with expressions of up to 27 bytes, in zeroed bytes; a counter or a queue is any. Returns its size. */
 static size_t put_record(uint8_t *record, size_t object, uint8_t kind, size_t maximum)
 {
     put_low_first(record, ELEMENT_RECORD_HEAD + maximum);
@@ -177,22 +210,22 @@ static size_t put_record(uint8_t *record, size_t object, uint8_t kind, size_t ma
     record[10] = state();
     for (size_t slot = 0; slot < 3; slot++)
         put_expression(record + 12 + ELEMENT_SLOT * slot, below(8));
-    if (kind != ELEMENT_KIND_DATA) {
-        record[8] = ELEMENT_COUNTER_SIZE;
-        for (size_t i = 0; i < ELEMENT_COUNTER_SIZE; i++)
-            record[ELEMENT_RECORD_HEAD + i] = one_of("\x00\x00\x01\xFF", 4);
-    }
+    if (kind == ELEMENT_KIND_QUEUE)
+        put_low_first(record + 8, put_queue(record + ELEMENT_RECORD_HEAD, maximum));
+    else if (kind != ELEMENT_KIND_DATA)
+        put_low_first(record + 8, put_counter(record + ELEMENT_RECORD_HEAD));
     return ELEMENT_RECORD_HEAD + maximum;
 }
 
-/* The largest store: 32 records, every fourth a counter, the others of 552 bytes of data. */
+/* The largest store: 32 records, every fourth a counter, every eighth a queue; data and queues of 552 bytes. */
 static void make_largest_store(void)
 {
     size_t at = 0;
     memset(store, 0, sizeof store);
     for (size_t i = 0; i < ELEMENT_MOST_RECORDS; i++) {
-        uint8_t kind = i % 4 < 3 ? ELEMENT_KIND_DATA : one_of("\x02\x04", 2);
-        at += put_record(store + at, 0xF1D0 + i, kind, kind == ELEMENT_KIND_DATA ? LARGE : ELEMENT_COUNTER_SIZE);
+        bool counter = i % 4 == 3;
+        uint8_t kind = counter ? one_of("\x02\x04", 2) : i % 8 == 0 ? ELEMENT_KIND_QUEUE : ELEMENT_KIND_DATA;
+        at += put_record(store + at, 0xF1D0 + i, kind, counter ? ELEMENT_COUNTER_SIZE : LARGE);
     }
     store_len = at;
 }
@@ -275,6 +308,30 @@ static size_t put_count(uint8_t *in)
     return size;
 }
 
+/* Mostly a queue of the largest store. */
+static size_t put_queue_object(uint8_t *in)
+{
+    return below(4) == 0 ? put_object(in) : put_number(in, 0xF1D0 + 8 * below(4));
+}
+
+static size_t put_append(uint8_t *in)
+{
+    static const size_t largest[] = {2, 20, ELEMENT_LARGEST_BODY + 1, ELEMENT_LARGEST_BODY + 3};
+    size_t size = put_queue_object(in);
+    size_t body = below(largest[below(4)]);
+    memset(in + size, 0xC3, body);
+    return size + body;
+}
+
+/* Mostly of a fare that may be there. */
+static size_t put_acknowledge(uint8_t *in)
+{
+    uint32_t number = below(4) == 0 ? ELEMENT_NO_NUMBER - (uint32_t)below(FARES) : (uint32_t)below(FARES);
+    size_t size = put_queue_object(in);
+    size += put_number(in + size, number >> 16);
+    return size + put_number(in + size, number & 0xFFFF);
+}
+
 static size_t put_in_data(uint8_t *in, uint8_t cmd, uint8_t param)
 {
     if (cmd == ELEMENT_OPEN) {
@@ -288,6 +345,10 @@ static size_t put_in_data(uint8_t *in, uint8_t cmd, uint8_t param)
         return put_object(in) + put_content(in + 2);
     if (cmd == ELEMENT_SET && param == ELEMENT_COUNT)
         return put_count(in);
+    if (cmd == ELEMENT_SET && param == ELEMENT_APPEND)
+        return put_append(in);
+    if (cmd == ELEMENT_SET && param == ELEMENT_ACKNOWLEDGE)
+        return put_acknowledge(in);
     return cmd == ELEMENT_SET ? put_write(in) : 0;
 }
 
@@ -295,7 +356,7 @@ static size_t put_in_data(uint8_t *in, uint8_t cmd, uint8_t param)
 static size_t put_command(uint8_t *at)
 {
     uint8_t cmd = below(16) == 0 ? (uint8_t)below(128) : one_of("\x01\x01\x02\x02\x02\x70\x71", 7);
-    uint8_t param = cmd == ELEMENT_SET ? one_of("\x00\x40\x01\x02", 4) : cmd == ELEMENT_GET ? one_of("\x00\x01", 2) : 0;
+    uint8_t param = cmd == ELEMENT_SET ? one_of("\x00\x40\x01\x02\x04\x05", 6) : cmd == ELEMENT_GET ? one_of("\x00\x01", 2) : 0;
     if (below(32) == 0)
         param = (uint8_t)below(256);
     size_t size = put_in_data(at + ELEMENT_HEADER, cmd, param);
@@ -314,9 +375,9 @@ static size_t some_space(void)
 
 /* One call with other commands; they fit what was set apart for them. */
 
-static bool is_count(void)
+static bool is_set(uint8_t param)
 {
-    return (commands[0] & ~ELEMENT_FLUSH) == ELEMENT_SET && commands[1] == ELEMENT_COUNT;
+    return (commands[0] & ~ELEMENT_FLUSH) == ELEMENT_SET && commands[1] == param;
 }
 
 static bool is_get(void)
@@ -330,7 +391,9 @@ static void note(uint8_t outcome, uint8_t status, uint8_t error)
         return;
     if (status == ELEMENT_STATUS_DONE) {
         done++;
-        counted += is_count();
+        counted += is_set(ELEMENT_COUNT);
+        appended += is_set(ELEMENT_APPEND);
+        acknowledged += is_set(ELEMENT_ACKNOWLEDGE);
         stepped += is_get() && memcmp(before, store, store_len) != 0;
     } else
         refused[error]++;
@@ -407,7 +470,7 @@ static size_t deepest(void (*attempt)(void))
     return most;
 }
 
-/* Every refusal of the header has been seen, and commands that were done, counts and gets that used up a counter among them. */
+/* Every refusal of the header has been seen, and commands that were done, each kind that is noted among them. */
 static bool all_kinds(void)
 {
     static const uint8_t numbers[] = {0x01, 0x03, 0x04, 0x05, 0x06, 0x07, 0x08, 0x0A, 0x0C, 0x0D};
@@ -416,8 +479,8 @@ static bool all_kinds(void)
             printf("no command was refused with %02X\n", (unsigned)numbers[i]);
             return false;
         }
-    if (counted == 0 || stepped == 0) {
-        printf("no count was done, or no get that used up a counter\n");
+    if (counted == 0 || appended == 0 || acknowledged == 0 || stepped == 0) {
+        printf("no count, append or acknowledge was done, or no get that used up a counter\n");
         return false;
     }
     return done > ROUNDS / 4;
@@ -435,7 +498,7 @@ int main(int arguments, char **words)
     }
     if (!all_kinds())
         return 1;
-    printf("%d calls of each entry on a stack of their own; of the commands %u were done, %u of them counts and %u gets that used up a counter, the others"
-        " refused with every number\n", 2 * ROUNDS, done, counted, stepped);
+    printf("%d calls of each entry on a stack of their own; of the commands %u were done, %u of them counts, %u appends, %u acknowledgements and %u gets"
+        " that used up a counter, the others refused with every number\n", 2 * ROUNDS, done, counted, appended, acknowledged, stepped);
     return within ? 0 : 1;
 }

@@ -1,6 +1,7 @@
 //! What the generated cases of a seed cover, judged by the reference itself.
 
 pub mod counters;
+pub mod queues;
 pub mod reads;
 pub mod used_counters;
 
@@ -19,6 +20,7 @@ use crate::replay::{Item, State};
 use crate::session::{is_state, SessionObject, TERMINATION};
 use crate::store::{self, check_store, judge_store, Fault, Record, Slot};
 use counters::{CounterRow, Standing};
+use queues::{QueueRow, QueueStanding};
 use reads::ReadRow;
 use used_counters::UsedRow;
 
@@ -32,12 +34,14 @@ pub enum CommandRow {
 }
 
 impl CommandRow {
-    pub const ALL: [CommandRow; 11] = [
+    pub const ALL: [CommandRow; 13] = [
         CommandRow::Known(Row::GetData),
         CommandRow::Known(Row::GetMetadata),
         CommandRow::Known(Row::Write),
         CommandRow::Known(Row::EraseAndWrite),
         CommandRow::Known(Row::Count),
+        CommandRow::Known(Row::Append),
+        CommandRow::Known(Row::Acknowledge),
         CommandRow::Known(Row::SetMetadata),
         CommandRow::Known(Row::Open),
         CommandRow::Known(Row::Close),
@@ -65,6 +69,8 @@ impl CommandRow {
             CommandRow::Known(Row::Write) => "write",
             CommandRow::Known(Row::EraseAndWrite) => "erase and write",
             CommandRow::Known(Row::Count) => "count",
+            CommandRow::Known(Row::Append) => "append",
+            CommandRow::Known(Row::Acknowledge) => "acknowledge",
             CommandRow::Known(Row::SetMetadata) => "set metadata",
             CommandRow::Known(Row::Open) => "open",
             CommandRow::Known(Row::Close) => "close",
@@ -123,20 +129,23 @@ pub fn unreachable(row: CommandRow, verdict: Verdict) -> Option<&'static str> {
         return unreachable_unknown(row, refusal);
     };
     let names_object = !matches!(row, Row::Open | Row::Close);
-    let has_offset = matches!(
+    let is_of_one_kind = matches!(row, Row::Count | Row::Append | Row::Acknowledge);
+    let has_bounds = matches!(
         row,
-        Row::GetData | Row::Write | Row::EraseAndWrite | Row::Count
+        Row::GetData | Row::Write | Row::EraseAndWrite | Row::Count | Row::Append
     );
     let answers_data = matches!(row, Row::GetData | Row::GetMetadata);
-    let brings_value = !answers_data && !matches!(row, Row::Count | Row::Close);
+    let brings_value = !answers_data && !matches!(row, Row::Count | Row::Append | Row::Close);
     match refusal {
         Refusal::UnknownCmd => Some("the Cmd is known"),
-        Refusal::WrongParam if row != Row::Count => Some("the Param is known"),
+        Refusal::WrongParam if !is_of_one_kind => Some("the Param is known"),
         Refusal::NoSuchObject | Refusal::NoAccess if !names_object => Some("names no object"),
-        Refusal::OutOfBounds if !has_offset => Some("has no offset"),
-        Refusal::NoRoom if !answers_data => Some("answers with no data, 4 bytes fit"),
+        Refusal::OutOfBounds if !has_bounds => Some("has no offset and adds nothing"),
+        Refusal::NoRoom if !answers_data && row != Row::Append => {
+            Some("answers with no data, 4 bytes fit")
+        }
         Refusal::WrongValue if !brings_value => {
-            Some("brings no identifier, metadata or life cycle value")
+            Some("brings no identifier, metadata, life cycle value or number of a fare")
         }
         _ => None,
     }
@@ -469,7 +478,7 @@ struct Tally<K> {
     counts: Vec<(K, usize)>,
 }
 
-impl<K: Copy + PartialEq> Tally<K> {
+impl<K: Copy + PartialEq + fmt::Debug> Tally<K> {
     fn new(keys: impl IntoIterator<Item = K>) -> Tally<K> {
         Tally {
             counts: keys.into_iter().map(|key| (key, 0)).collect(),
@@ -479,6 +488,12 @@ impl<K: Copy + PartialEq> Tally<K> {
     fn add(&mut self, key: K) {
         let found = self.counts.iter_mut().find(|entry| entry.0 == key);
         found.expect("every key is listed").1 += 1;
+    }
+
+    fn add_all(&mut self, keys: Vec<K>) {
+        for key in keys {
+            self.add(key);
+        }
     }
 
     fn count(&self, key: K) -> usize {
@@ -491,6 +506,11 @@ impl<K: Copy + PartialEq> Tally<K> {
             .iter()
             .filter(|entry| entry.1 == 0)
             .map(|entry| entry.0)
+    }
+
+    /// The missing ones, each after this name.
+    fn missing_of<'t>(&'t self, name: &'t str) -> impl Iterator<Item = String> + 't {
+        self.missing().map(move |key| format!("{name} {key:?}"))
     }
 }
 
@@ -508,6 +528,8 @@ pub struct Coverage {
     counters: Tally<CounterRow>,
     standings: Tally<(Direction, Standing)>,
     used: Tally<UsedRow>,
+    queues: Tally<QueueRow>,
+    queue_standings: Tally<QueueStanding>,
     errors: Vec<String>,
 }
 
@@ -529,6 +551,8 @@ pub fn cover(seed: u64, count: usize) -> Coverage {
         counters: Tally::new(CounterRow::all()),
         standings: Tally::new(Standing::all()),
         used: Tally::new(UsedRow::all()),
+        queues: Tally::new(QueueRow::all()),
+        queue_standings: Tally::new(QueueStanding::all()),
         errors: Vec::new(),
     };
     let mut state = State::empty();
@@ -546,7 +570,7 @@ impl Coverage {
             Item::Store { store, session } => {
                 self.take_store(&store, case.damage);
                 *state = State { store, session };
-                self.add_features(state_features(state));
+                self.features.add_all(state_features(state));
             }
             Item::Command { mut room, command } => {
                 self.take_command(&command, &mut room, case.content, state);
@@ -557,12 +581,6 @@ impl Coverage {
                     self.features.add(Feature::FactoryStore);
                 }
             }
-        }
-    }
-
-    fn add_features(&mut self, features: Vec<Feature>) {
-        for feature in features {
-            self.features.add(feature);
         }
     }
 
@@ -584,9 +602,8 @@ impl Coverage {
     fn take_well_formed(&mut self, store: &[u8]) {
         self.accepted_stores += 1;
         for (_, record) in store::records(store) {
-            for standing in Standing::of(record) {
-                self.standings.add(standing);
-            }
+            self.standings.add_all(Standing::of(record));
+            self.queue_standings.add_all(QueueStanding::of(record));
         }
     }
 
@@ -617,24 +634,23 @@ impl Coverage {
             before: &before,
             after: state,
         };
-        self.add_features(event.features());
-        for row in event.read_rows() {
-            self.reads.add(row);
-        }
-        for row in event.counter_rows() {
-            self.counters.add(row);
-        }
-        for row in event.used_rows() {
-            self.used.add(row);
-        }
-        let used = event.used_disagreement();
+        self.add_rows(&event);
         let errors = [
-            disagreement(command, verdict, outcome, room, &before, state),
-            used,
+            disagreement(command, verdict, outcome, room, &before, event.after),
+            event.used_disagreement(),
+            event.queue_disagreement(),
         ];
         for error in errors.into_iter().flatten() {
             self.errors.push(format!("{error}: {command:02X?}"));
         }
+    }
+
+    fn add_rows(&mut self, event: &Event<'_>) {
+        self.features.add_all(event.features());
+        self.reads.add_all(event.read_rows());
+        self.counters.add_all(event.counter_rows());
+        self.used.add_all(event.used_rows());
+        self.queues.add_all(event.queue_rows());
     }
 
     /// The reachable cells and the things to generate that never occurred.
@@ -644,47 +660,17 @@ impl Coverage {
             .missing()
             .filter(|&(row, verdict)| unreachable(row, verdict).is_none())
             .map(|(row, verdict)| format!("{} x {verdict}", row.name()));
-        let damages = self
-            .damages
-            .missing()
-            .map(|damage| format!("store damage {damage:?}"));
-        let faults = self
-            .faults
-            .missing()
-            .map(|fault| format!("store clause {fault:?}"));
-        let contents = self
-            .contents
-            .missing()
-            .map(|content| format!("metadata content {content:?}"));
-        let features = self
-            .features
-            .missing()
-            .map(|feature| format!("feature {feature:?}"));
-        let reads = self
-            .reads
-            .missing()
-            .map(|row| format!("get of data {row:?}"));
-        let counters = self
-            .counters
-            .missing()
-            .map(|row| format!("counter {row:?}"));
-        let standings = self
-            .standings
-            .missing()
-            .map(|standing| format!("stored counter {standing:?}"));
-        let used = self
-            .used
-            .missing()
-            .map(|row| format!("condition on a counter {row:?}"));
         cells
-            .chain(damages)
-            .chain(faults)
-            .chain(contents)
-            .chain(features)
-            .chain(reads)
-            .chain(counters)
-            .chain(standings)
-            .chain(used)
+            .chain(self.damages.missing_of("store damage"))
+            .chain(self.faults.missing_of("store clause"))
+            .chain(self.contents.missing_of("metadata content"))
+            .chain(self.features.missing_of("feature"))
+            .chain(self.reads.missing_of("get of data"))
+            .chain(self.counters.missing_of("counter"))
+            .chain(self.standings.missing_of("stored counter"))
+            .chain(self.used.missing_of("condition on a counter"))
+            .chain(self.queues.missing_of("queue"))
+            .chain(self.queue_standings.missing_of("stored queue"))
             .collect()
     }
 
@@ -722,6 +708,10 @@ impl Coverage {
             writeln!(text)?;
         }
         self.put_unreachable(text)?;
+        self.put_tallies(text)
+    }
+
+    fn put_tallies(&self, text: &mut String) -> fmt::Result {
         put_tally(text, "store clauses broken (first one found)", &self.faults)?;
         put_tally(text, "stores by damage made", &self.damages)?;
         put_tally(
@@ -737,7 +727,13 @@ impl Coverage {
             &self.counters,
         )?;
         put_tally(text, "counters of well-formed stores", &self.standings)?;
-        put_tally(text, "conditions that use up counters", &self.used)
+        put_tally(text, "conditions that use up counters", &self.used)?;
+        put_tally(
+            text,
+            "appends, acknowledgements, and other commands at queues",
+            &self.queues,
+        )?;
+        put_tally(text, "queues of well-formed stores", &self.queue_standings)
     }
 
     fn put_unreachable(&self, text: &mut String) -> fmt::Result {

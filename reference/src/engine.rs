@@ -6,6 +6,7 @@ use crate::counter::{self, Counter};
 use crate::expression::CounterSet;
 use crate::kinds::{end_of, Length, ObjectNumber, Offset};
 use crate::metadata::{self, Changes};
+use crate::queue::{self, SequenceNumber};
 use crate::session::{may_become, Session, SessionObject, TERMINATION};
 use crate::store::{self, Record, RecordMut, Slot};
 
@@ -79,6 +80,8 @@ pub enum Row {
     Write,
     EraseAndWrite,
     Count,
+    Append,
+    Acknowledge,
     SetMetadata,
     Open,
     Close,
@@ -99,26 +102,32 @@ pub enum Action<'c> {
     AnswerMetadata {
         record: Range<usize>,
     },
-    Write {
+    Change {
         record: Range<usize>,
-        offset: Offset,
-        bytes: &'c [u8],
-        erase: bool,
-    },
-    Count {
-        record: Range<usize>,
-        counter: Counter,
+        change: Change<'c>,
     },
     SetLifeCycle {
         object: SessionObject,
         state: u8,
     },
-    ChangeMetadata {
-        record: Range<usize>,
-        changes: Changes<'c>,
-    },
     Open,
     Close,
+}
+
+/// What a set does to the record of a stored object.
+#[derive(Clone, Debug, PartialEq, Eq)]
+pub enum Change<'c> {
+    Write {
+        offset: Offset,
+        bytes: &'c [u8],
+        erase: bool,
+    },
+    Count(Counter),
+    /// A fare with this body.
+    Append(&'c [u8]),
+    /// All fares before this place are gone.
+    Acknowledge(Offset),
+    Metadata(Changes<'c>),
 }
 
 /// An action that no step refuses, and the counters that its access uses up.
@@ -135,6 +144,11 @@ impl<'c> Granted<'c> {
             action,
             counters: CounterSet::EMPTY,
         }
+    }
+
+    fn change(record: Range<usize>, change: Change<'c>, counters: CounterSet) -> Granted<'c> {
+        let action = Action::Change { record, change };
+        Granted { action, counters }
     }
 }
 
@@ -202,6 +216,8 @@ pub fn judge<'c>(
         Row::Write => judge_write(in_data, store, session, false),
         Row::EraseAndWrite => judge_write(in_data, store, session, true),
         Row::Count => judge_count(in_data, store, session),
+        Row::Append => judge_append(in_data, store, session),
+        Row::Acknowledge => judge_acknowledge(in_data, store, session),
         Row::SetMetadata => judge_set_metadata(in_data, store, session),
         Row::Open => judge_open(in_data),
         Row::Close => Ok(Granted::unasked(Action::Close)),
@@ -255,6 +271,8 @@ pub fn row_of(cmd: u8, param: u8) -> Option<Row> {
         (SET, 0x00) => Some(Row::Write),
         (SET, 0x40) => Some(Row::EraseAndWrite),
         (SET, 0x02) => Some(Row::Count),
+        (SET, 0x04) => Some(Row::Append),
+        (SET, 0x05) => Some(Row::Acknowledge),
         (SET, 0x01) => Some(Row::SetMetadata),
         (OPEN, 0x00) => Some(Row::Open),
         (CLOSE, 0x00) => Some(Row::Close),
@@ -268,6 +286,8 @@ fn is_length_of_row(row: Row, in_len: usize) -> bool {
         Row::GetMetadata => in_len == 2,
         Row::Write | Row::EraseAndWrite => in_len >= 5,
         Row::Count => in_len == 5,
+        Row::Append => in_len.checked_sub(2).is_some_and(queue::is_body_size),
+        Row::Acknowledge => in_len == 6,
         Row::SetMetadata => in_len >= 4,
         Row::Open => in_len == IDENTIFIER.len(),
         Row::Close => in_len == 0,
@@ -277,6 +297,12 @@ fn is_length_of_row(row: Row, in_len: usize) -> bool {
 /// The number at a place of a command, most significant byte first.
 fn number_at(bytes: &[u8], place: usize) -> usize {
     usize::from(u16::from_be_bytes([bytes[place], bytes[place + 1]]))
+}
+
+/// The sequence number at a place of a command, most significant byte first.
+fn sequence_number_at(bytes: &[u8], place: usize) -> SequenceNumber {
+    let bytes = [0, 1, 2, 3].map(|byte| bytes[place + byte]);
+    SequenceNumber(u32::from_be_bytes(bytes))
 }
 
 /// The object named at the front of InData.
@@ -383,15 +409,16 @@ fn judge_write<'c>(
         Object::Session(object) => judge_session_write(object, offset, bytes, session),
         Object::Stored(place) => {
             let record = Record::at(store, place.clone());
+            // Whatever its change expression says, a queue takes no plain write.
+            require(record.queue().is_none(), Refusal::NoAccess)?;
             let counters = judge_access(record, Slot::Change, session, store)?;
             require_write_fits(record, offset, Length(bytes.len()))?;
-            let action = Action::Write {
-                record: place,
+            let change = Change::Write {
                 offset,
                 bytes,
                 erase,
             };
-            Ok(Granted { action, counters })
+            Ok(Granted::change(place, change, counters))
         }
     }
 }
@@ -421,26 +448,61 @@ fn judge_session_write<'c>(
     Ok(Granted::unasked(Action::SetLifeCycle { object, state }))
 }
 
+/// Step 9 of a set for one kind of stored objects: 07 at the last error, 03 at a life cycle.
+fn find_stored(in_data: &[u8], store: &[u8]) -> Result<Range<usize>, Refusal> {
+    match find_object(in_data, store)? {
+        Object::Stored(place) => Ok(place),
+        Object::Session(SessionObject::LastError) => Err(Refusal::NoAccess),
+        Object::Session(SessionObject::LcsG | SessionObject::LcsA) => Err(Refusal::WrongParam),
+    }
+}
+
 /// Steps 9 to 11 of a count; right after access, the kind.
 fn judge_count<'c>(in_data: &[u8], store: &[u8], session: Session) -> Result<Granted<'c>, Refusal> {
     let offset = Offset(number_at(in_data, 2));
     let step = in_data[4];
-    match find_object(in_data, store)? {
-        Object::Session(SessionObject::LastError) => Err(Refusal::NoAccess),
-        Object::Session(SessionObject::LcsG | SessionObject::LcsA) => Err(Refusal::WrongParam),
-        Object::Stored(place) => {
-            let record = Record::at(store, place.clone());
-            let counters = judge_access(record, Slot::Change, session, store)?;
-            let counter = record.counter().ok_or(Refusal::WrongParam)?;
-            require(offset == Offset(0), Refusal::OutOfBounds)?;
-            let counter = counter.count(step).ok_or(Refusal::OutOfBounds)?;
-            let action = Action::Count {
-                record: place,
-                counter,
-            };
-            Ok(Granted { action, counters })
-        }
-    }
+    let place = find_stored(in_data, store)?;
+    let record = Record::at(store, place.clone());
+    let counters = judge_access(record, Slot::Change, session, store)?;
+    let counter = record.counter().ok_or(Refusal::WrongParam)?;
+    require(offset == Offset(0), Refusal::OutOfBounds)?;
+    let counter = counter.count(step).ok_or(Refusal::OutOfBounds)?;
+    Ok(Granted::change(place, Change::Count(counter), counters))
+}
+
+/// Steps 9 to 13 of an append; right after access, the kind.
+fn judge_append<'c>(
+    in_data: &'c [u8],
+    store: &[u8],
+    session: Session,
+) -> Result<Granted<'c>, Refusal> {
+    let body = &in_data[2..];
+    let place = find_stored(in_data, store)?;
+    let record = Record::at(store, place.clone());
+    let counters = judge_access(record, Slot::Change, session, store)?;
+    let queue = record.queue().ok_or(Refusal::WrongParam)?;
+    // Step 11.
+    let used = record.used() + queue::fare_size(body.len());
+    require(used <= record.maximum(), Refusal::OutOfBounds)?;
+    // Step 13.
+    let has_number = queue.next_number() != SequenceNumber::LAST;
+    require(has_number, Refusal::NoRoom)?;
+    Ok(Granted::change(place, Change::Append(body), counters))
+}
+
+/// Steps 9 to 12 of an acknowledgement; right after access, the kind.
+fn judge_acknowledge<'c>(
+    in_data: &[u8],
+    store: &[u8],
+    session: Session,
+) -> Result<Granted<'c>, Refusal> {
+    let number = sequence_number_at(in_data, 2);
+    let place = find_stored(in_data, store)?;
+    let record = Record::at(store, place.clone());
+    let counters = judge_access(record, Slot::Change, session, store)?;
+    let queue = record.queue().ok_or(Refusal::WrongParam)?;
+    let end = queue.end_of(number).ok_or(Refusal::WrongValue)?;
+    Ok(Granted::change(place, Change::Acknowledge(end), counters))
 }
 
 fn judge_set_metadata<'c>(
@@ -455,11 +517,7 @@ fn judge_set_metadata<'c>(
     let counters = judge_access(record, Slot::Change, session, store)?;
     let changes =
         metadata::read_changes(&in_data[2..], record.lcso()).ok_or(Refusal::WrongValue)?;
-    let action = Action::ChangeMetadata {
-        record: place,
-        changes,
-    };
-    Ok(Granted { action, counters })
+    Ok(Granted::change(place, Change::Metadata(changes), counters))
 }
 
 /// Step 8.
@@ -497,29 +555,29 @@ fn perform(action: Action<'_>, store: &mut [u8], session: Session, room: &mut [u
             metadata::write_answer(record, out);
             session
         }
-        Action::Write {
-            record,
-            offset,
-            bytes,
-            erase,
-        } => {
-            write(RecordMut::at(store, record), offset, bytes, erase);
-            answer_nothing(room, session)
-        }
-        Action::Count { record, counter } => {
-            let mut record = RecordMut::at(store, record);
-            record.data().copy_from_slice(&counter.to_data());
+        Action::Change { record, change } => {
+            make_change(change, RecordMut::at(store, record));
             answer_nothing(room, session)
         }
         Action::SetLifeCycle { object, state } => {
             answer_nothing(room, session.with_byte(object, state))
         }
-        Action::ChangeMetadata { record, changes } => {
-            changes.store(&mut RecordMut::at(store, record));
-            answer_nothing(room, session)
-        }
         Action::Open => answer_nothing(room, with_opened(session, true)),
         Action::Close => answer_nothing(room, with_opened(session, false)),
+    }
+}
+
+fn make_change(change: Change<'_>, mut record: RecordMut<'_>) {
+    match change {
+        Change::Write {
+            offset,
+            bytes,
+            erase,
+        } => write(record, offset, bytes, erase),
+        Change::Count(counter) => record.data().copy_from_slice(&counter.to_data()),
+        Change::Append(body) => append(record, body),
+        Change::Acknowledge(end) => acknowledge(record, end),
+        Change::Metadata(changes) => changes.store(&mut record),
     }
 }
 
@@ -553,6 +611,18 @@ fn write(mut record: RecordMut<'_>, offset: Offset, bytes: &[u8], erase: bool) {
         record.used().max(end)
     };
     record.data()[offset.0..end].copy_from_slice(bytes);
+    record.set_used(used);
+}
+
+fn append(mut record: RecordMut<'_>, body: &[u8]) {
+    let used = record.used();
+    let used = queue::append(record.data(), used, body);
+    record.set_used(used);
+}
+
+fn acknowledge(mut record: RecordMut<'_>, end: Offset) {
+    let used = record.used();
+    let used = queue::acknowledge(record.data(), used, end);
     record.set_used(used);
 }
 

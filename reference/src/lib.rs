@@ -12,6 +12,7 @@ pub mod kinds;
 pub mod metadata;
 pub mod mix_check;
 pub mod program;
+pub mod queue;
 pub mod replay;
 pub mod session;
 pub mod store;

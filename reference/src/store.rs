@@ -5,6 +5,7 @@ use std::ops::Range;
 use crate::counter::{self, Counter, Direction};
 use crate::expression::{self, CounterSet, States};
 use crate::kinds::{Length, ObjectNumber, Offset};
+use crate::queue::{self, Queue, QueueFault};
 use crate::session::{is_state, Session, SessionObject};
 
 pub const LARGEST_STORE: usize = 16_384;
@@ -31,12 +32,14 @@ pub const SLOT_SIZE: usize = 28;
 pub enum RecordKind {
     Data,
     Counter(Direction),
+    Queue,
 }
 
 impl RecordKind {
-    pub const ALL: [RecordKind; 3] = [
+    pub const ALL: [RecordKind; 4] = [
         RecordKind::Data,
         RecordKind::Counter(Direction::Up),
+        RecordKind::Queue,
         RecordKind::Counter(Direction::Down),
     ];
 
@@ -44,6 +47,7 @@ impl RecordKind {
         match self {
             RecordKind::Data => 0x0001,
             RecordKind::Counter(Direction::Up) => 0x0002,
+            RecordKind::Queue => 0x0003,
             RecordKind::Counter(Direction::Down) => 0x0004,
         }
     }
@@ -89,12 +93,13 @@ pub enum Fault {
     ZeroByte,
     Expression(Slot),
     SlotTail(Slot),
+    Queue(QueueFault),
     DataTail,
     Order,
 }
 
 impl Fault {
-    pub const ALL: [Fault; 21] = [
+    pub const ALL: [Fault; 27] = [
         Fault::TooLong,
         Fault::NoRecord,
         Fault::TooManyRecords,
@@ -114,6 +119,12 @@ impl Fault {
         Fault::SlotTail(Slot::Change),
         Fault::SlotTail(Slot::Read),
         Fault::SlotTail(Slot::Execute),
+        Fault::Queue(QueueFault::Used),
+        Fault::Queue(QueueFault::CutShort),
+        Fault::Queue(QueueFault::BodySize),
+        Fault::Queue(QueueFault::FareKind),
+        Fault::Queue(QueueFault::FareNumber),
+        Fault::Queue(QueueFault::NextNumber),
         Fault::DataTail,
         Fault::Order,
     ];
@@ -188,16 +199,22 @@ fn judge_record(record: Record<'_>) -> Result<(), Fault> {
     for slot in Slot::ALL {
         judge_slot(record, slot)?;
     }
+    if kind == RecordKind::Queue {
+        queue::judge(record.used_data()).map_err(Fault::Queue)?;
+    }
     if !is_zero(&record.bytes[DATA + record.used()..]) {
         return Err(Fault::DataTail);
     }
     Ok(())
 }
 
-/// Judges maximum and used, which are fixed for a counter.
+/// Judges maximum and used, which are fixed for a counter; a queue's contents judge
+/// the rest of its used.
 fn judge_sizes(kind: RecordKind, record: Record<'_>) -> Result<(), Fault> {
     match kind {
-        RecordKind::Data if record.used() > record.maximum() => Err(Fault::Used),
+        RecordKind::Data | RecordKind::Queue if record.used() > record.maximum() => {
+            Err(Fault::Used)
+        }
         RecordKind::Counter(_) if record.maximum() != counter::SIZE => Err(Fault::CounterMaximum),
         RecordKind::Counter(_) if record.used() != counter::SIZE => Err(Fault::CounterUsed),
         _ => Ok(()),
@@ -244,7 +261,7 @@ impl<'s> Record<'s> {
     }
 
     /// The kind, unless its number is unknown.
-    fn kind(self) -> Option<RecordKind> {
+    pub fn kind(self) -> Option<RecordKind> {
         RecordKind::from_number(number_at(self.bytes, KIND))
     }
 
@@ -287,14 +304,24 @@ impl<'s> Record<'s> {
         &self.bytes[DATA..][offset.0..][..length.0]
     }
 
+    fn used_data(self) -> &'s [u8] {
+        self.data(Offset(0), Length(self.used()))
+    }
+
     /// The counter that the record holds, if it holds one.
     pub fn counter(self) -> Option<Counter> {
         match self.kind()? {
-            RecordKind::Data => None,
+            RecordKind::Data | RecordKind::Queue => None,
             RecordKind::Counter(direction) => {
                 Some(Counter::from_data(direction, &self.bytes[DATA..]))
             }
         }
+    }
+
+    /// The queue that the record holds, if it holds one.
+    pub fn queue(self) -> Option<Queue<'s>> {
+        let is_queue = self.kind() == Some(RecordKind::Queue);
+        is_queue.then(|| Queue::from_used(self.used_data()))
     }
 }
 

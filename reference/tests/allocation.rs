@@ -6,7 +6,8 @@ use std::alloc::{GlobalAlloc, Layout, System};
 use std::cell::Cell;
 
 use common::{
-    count, counter_record, get_data, get_metadata, hex, set_metadata, write, Element, OPEN,
+    acknowledge, append, count, counter_record, get_data, get_metadata, hex, queue_record,
+    set_metadata, write, Element, OPEN,
 };
 use reference::execute;
 
@@ -33,7 +34,10 @@ static ALLOCATOR: Counting = Counting;
 
 #[test]
 fn execute_does_not_allocate() {
-    let mut element = Element::with_records(&[counter_record(2, 0x1000, 7, 9)]);
+    let mut element = Element::with_records(&[
+        counter_record(2, 0x1000, 7, 9),
+        queue_record(0x1001, 60, &[0; 4]),
+    ]);
     let commands = [
         hex(OPEN),
         count(0x1000, 0, 1),
@@ -47,6 +51,12 @@ fn execute_does_not_allocate() {
         set_metadata(0xF1D1, &hex("D0 07 E1 FA 0F FE 40 10 00")),
         write(0xF1D1, 0, &[1]),
         write(0xF1D1, 0, &[2]),
+        append(0x1001, &[1, 2, 3]),
+        append(0x1001, &[4]),
+        append(0x1001, &[5; 50]),
+        acknowledge(0x1001, 0),
+        acknowledge(0x1001, 0),
+        write(0x1001, 0, &[1]),
         vec![],
     ];
     let mut room = [0; 1_504];
@@ -60,4 +70,6 @@ fn execute_does_not_allocate() {
     // One count and one write that used up the counter; then there is no access.
     assert_eq!(element.data(0x1000), hex("00000009 00000009"));
     assert_eq!(element.data(0xF1D1)[0], 1);
+    // The second of two fares is left.
+    assert_eq!(element.used(0x1001), 13);
 }

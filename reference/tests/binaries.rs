@@ -114,6 +114,12 @@ fn generate_calls() {
         "stored counter ",
         "condition on a counter Granted",
         "condition on a counter Own",
+        "append x ",
+        "acknowledge x ",
+        "queue Append",
+        "queue Acknowledge",
+        "queue Other",
+        "stored queue ",
     ] {
         assert!(text.contains(&format!("never occurred: {missing}")));
     }

@@ -130,6 +130,33 @@ fn brings_condition(pair: &Pair) -> bool {
     })
 }
 
+/// How many commands with this Param of a set are done in the mix.
+fn done_sets(pair: &Pair, param: u8) -> usize {
+    let mut state = pair.state.clone();
+    let is_done = |turn: &&Turn| {
+        let Listed { command, room } = pair.listed(**turn);
+        let mut room = room.clone();
+        state.execute(command, &mut room);
+        command.starts_with(&[0x02, param]) && room.starts_with(&[0, 0, 0, 0])
+    };
+    pair.mix.iter().filter(is_done).count()
+}
+
+#[test]
+fn pairs_append_and_acknowledge() {
+    for keeps_apart in [true, false] {
+        let pairs: Vec<Pair> = (0..400)
+            .map(|index| pair(14, index))
+            .filter(|pair| pair.judge().keeps_apart == keeps_apart)
+            .collect();
+        for param in [0x04, 0x05] {
+            let done = |pair: &&Pair| done_sets(pair, param) > 0;
+            let count = pairs.iter().filter(done).count();
+            assert!(6 * count > pairs.len(), "{count} of {}", pairs.len());
+        }
+    }
+}
+
 #[test]
 fn all_orders_are_alike_where_counters_are_apart() {
     let summary = checked(7, 150, &outputs(7, 150)).unwrap();

@@ -3,8 +3,8 @@
 mod common;
 
 use common::{
-    command, count, erase_and_write, get_data, get_metadata, hex, set, set_metadata, write,
-    Element, OPEN,
+    acknowledge, append, command, count, erase_and_write, fare, get_data, get_metadata, hex,
+    queue_data, queue_record, set, set_metadata, write, Element, OPEN,
 };
 use reference::store::Slot;
 
@@ -159,6 +159,8 @@ fn step_5_closed_or_terminated() {
         write(0xF1D0, 0, &[1]),
         erase_and_write(0xF1D0, 0, &[1]),
         count(0xF1D0, 0, 1),
+        append(0xF1D0, &[1]),
+        acknowledge(0xF1D0, 0),
         set_metadata(0xF1D0, &hex("C0 01 01")),
         command(0x71, 0, &[]),
     ] {
@@ -186,7 +188,7 @@ fn step_6_unknown_param() {
     for param in 0..=255u8 {
         for (cmd, known) in [
             (0x01, &[0x00, 0x01][..]),
-            (0x02, &[0x00, 0x01, 0x02, 0x40]),
+            (0x02, &[0x00, 0x01, 0x02, 0x04, 0x05, 0x40]),
             (0x70, &[0x00]),
             (0x71, &[0x00]),
         ] {
@@ -200,7 +202,7 @@ fn step_6_unknown_param() {
 
 #[test]
 fn step_7_lengths_of_each_row() {
-    for length in 0..=40usize {
+    for length in 0..=210usize {
         let in_data = vec![0x55; length];
         let code = |cmd, param| Element::opened().code(&command(cmd, param, &in_data));
         let row = |right: bool, later: u8| if right { later } else { 0x04 };
@@ -210,6 +212,9 @@ fn step_7_lengths_of_each_row() {
         assert_eq!(code(0x02, 0x40), row(length >= 5, 0x01), "{length}");
         assert_eq!(code(0x02, 0x01), row(length >= 4, 0x01), "{length}");
         assert_eq!(code(0x02, 0x02), row(length == 5, 0x01), "{length}");
+        let is_append = (3..=202).contains(&length);
+        assert_eq!(code(0x02, 0x04), row(is_append, 0x01), "{length}");
+        assert_eq!(code(0x02, 0x05), row(length == 6, 0x01), "{length}");
         assert_eq!(code(0x70, 0x00), row(length == 16, 0x05), "{length}");
         assert_eq!(code(0x71, 0x00), row(length == 0, 0x00), "{length}");
     }
@@ -238,6 +243,8 @@ fn step_9_no_such_object() {
         assert_eq!(element.code(&write(object, 0, &[1])), 0x01);
         assert_eq!(element.code(&erase_and_write(object, 0, &[1])), 0x01);
         assert_eq!(element.code(&count(object, 0, 1)), 0x01);
+        assert_eq!(element.code(&append(object, &[1])), 0x01);
+        assert_eq!(element.code(&acknowledge(object, 0)), 0x01);
         // A wrong 20 waits for step 12.
         assert_eq!(
             element.code(&command(0x02, 0x01, &[0xF1, 0xCF, 0, 0])),
@@ -458,4 +465,34 @@ fn step_13_keeps_the_error_unread() {
     assert_eq!(element.send_in(&get_data(0xF1C2, 0, 1), &mut room), 0);
     assert_eq!(room, common::REFUSED);
     assert_eq!(element.session.error, 0x0D);
+}
+
+/// A queue of 22 bytes with one fare of 5 bytes: 5 bytes are left.
+fn with_queue(next: u32) -> Element {
+    let fares = [fare(next - 1, &[0xAA; 5])];
+    Element::with_records(&[queue_record(0x1000, 22, &queue_data(next, &fares))])
+}
+
+#[test]
+fn steps_10_to_13_at_a_queue() {
+    // In this order: 07, 03, 08, 0D for an append; 07, 03, 05 for an acknowledgement.
+    let mut full = with_queue(7);
+    assert_eq!(full.code(&append(0x1000, &[1])), 0x08);
+    assert_eq!(full.code(&acknowledge(0x1000, 7)), 0x05);
+    assert_eq!(full.code(&append(0xF1D0, &[1; 200])), 0x03);
+    assert_eq!(full.code(&acknowledge(0xF1D0, 0)), 0x03);
+    full.set_expression(0x1000, Slot::Change, &[0xFF]);
+    assert_eq!(full.code(&append(0x1000, &[1])), 0x07);
+    assert_eq!(full.code(&acknowledge(0x1000, 7)), 0x07);
+    let mut at_end = with_queue(u32::MAX);
+    assert_eq!(at_end.code(&append(0x1000, &[1])), 0x08);
+    assert_eq!(at_end.code(&acknowledge(0x1000, u32::MAX - 1)), 0);
+    assert_eq!(at_end.code(&append(0x1000, &[1])), 0x0D);
+    // Plain writes, in bounds or not.
+    let mut element = with_queue(7);
+    for (offset, bytes) in [(0, &[7, 0, 0, 0][..]), (21, &[1, 2]), (65_535, &[1])] {
+        assert_eq!(element.code(&write(0x1000, offset, bytes)), 0x07);
+        assert_eq!(element.code(&erase_and_write(0x1000, offset, bytes)), 0x07);
+    }
+    assert_eq!(element.code(&count(0x1000, 1, 1)), 0x03);
 }

@@ -2,10 +2,13 @@
 
 mod common;
 
-use common::{counter_record, factory_store, get_metadata, Element};
+use common::{
+    counter_record, factory_store, fare, get_metadata, queue_data, queue_record, Element,
+};
 use reference::check_store;
 use reference::generator::random::Random;
 use reference::generator::stores::{valid_store, Damage};
+use reference::queue::QueueFault;
 use reference::store::{judge_store, Fault, Slot};
 
 /// A record with always in each slot and no used bytes.
@@ -117,6 +120,8 @@ fn kind() {
             1 => None,
             // A counter of two bytes.
             2 | 4 => Some(Fault::CounterMaximum),
+            // A queue without its next number.
+            3 => Some(Fault::Queue(QueueFault::Used)),
             _ => Some(Fault::Kind),
         };
         assert_eq!(fault_with(2, byte), expected);
@@ -129,9 +134,14 @@ fn kind() {
 #[test]
 fn kinds_of_a_counter() {
     for byte in 0..=255 {
-        let known = [1, 2, 4].contains(&byte);
+        let expected = match byte {
+            1 | 2 | 4 => None,
+            // A next number, and 4 bytes that are no fare.
+            3 => Some(Fault::Queue(QueueFault::CutShort)),
+            _ => Some(Fault::Kind),
+        };
         let fault = fault_of(&counter_record(byte, 0x1000, 7, 9));
-        assert_eq!(fault, (!known).then_some(Fault::Kind), "{byte}");
+        assert_eq!(fault, expected, "{byte}");
     }
     for kind in [1, 2, 4] {
         for high in 1..=255 {
@@ -345,6 +355,173 @@ fn faults_of_a_later_record() {
         let mut store = factory_store();
         store[start + 11] = 1;
         assert_eq!(fault_of(&store), Some(Fault::ZeroByte), "{place}");
+    }
+}
+
+/// The fault of a queue of this maximum with these used bytes.
+fn queue_fault(maximum: u16, used: &[u8]) -> Option<Fault> {
+    fault_of(&queue_record(0x1000, maximum, used))
+}
+
+/// The fault of a queue whose fares have these numbers and one byte each.
+fn numbers_fault(next: u32, numbers: &[u32]) -> Option<Fault> {
+    let fares: Vec<Vec<u8>> = numbers.iter().map(|&number| fare(number, &[7])).collect();
+    queue_fault(100, &queue_data(next, &fares))
+}
+
+#[test]
+fn used_of_a_queue() {
+    for maximum in 1..=20 {
+        for used in 0..=20 {
+            let expected = match used {
+                _ if used > maximum => Some(Fault::Used),
+                0..=3 => Some(Fault::Queue(QueueFault::Used)),
+                4 => None,
+                // Zeros are no fare: their head is cut short, or its length is 0.
+                5..=11 => Some(Fault::Queue(QueueFault::CutShort)),
+                _ => Some(Fault::Queue(QueueFault::BodySize)),
+            };
+            let store = sized_record(3, maximum, used);
+            assert_eq!(fault_of(&store), expected, "{maximum} {used}");
+        }
+    }
+    assert_eq!(fault_of(&sized_record(3, 1_500, 4)), None);
+    let above = sized_record(3, 1_501, 4);
+    assert_eq!(fault_of(&above), Some(Fault::Maximum));
+}
+
+#[test]
+fn next_number_of_an_empty_queue() {
+    for next in [0, 1, 255, 256, 0x8000_0000, u32::MAX - 1, u32::MAX] {
+        assert_eq!(numbers_fault(next, &[]), None);
+    }
+}
+
+#[test]
+fn body_size_of_a_fare() {
+    for size in 0..=400 {
+        let used = queue_data(1, &[fare(0, &vec![0x5A; size])]);
+        let expected = match size {
+            1..=200 => None,
+            _ => Some(Fault::Queue(QueueFault::BodySize)),
+        };
+        assert_eq!(queue_fault(500, &used), expected, "{size}");
+        // Behind another fare too.
+        let used = queue_data(9, &[fare(7, &[1]), fare(8, &vec![0; size])]);
+        assert_eq!(queue_fault(500, &used), expected, "{size}");
+    }
+    // The length, least significant byte first, of a fare with 3 bytes.
+    for length in 0..=0xFFFFu16 {
+        let mut used = queue_data(1, &[fare(0, &[1, 2, 3])]);
+        used[4..6].copy_from_slice(&length.to_le_bytes());
+        let expected = match length {
+            11 => None,
+            // A body of 1 or 2, and then fewer bytes than a head has.
+            9 | 10 | 12..=208 => Some(Fault::Queue(QueueFault::CutShort)),
+            _ => Some(Fault::Queue(QueueFault::BodySize)),
+        };
+        let store = queue_record(0x1000, 15, &used);
+        assert_eq!(judge_store(&store).err(), expected, "{length}");
+    }
+}
+
+#[test]
+fn whole_fares_up_to_used() {
+    let whole = queue_data(3, &[fare(1, &[1, 2, 3]), fare(2, &[4])]);
+    assert_eq!(whole.len(), 24);
+    for used in 4..=24 {
+        let expected = match used {
+            4 | 24 => None,
+            15 => Some(Fault::Queue(QueueFault::NextNumber)),
+            _ => Some(Fault::Queue(QueueFault::CutShort)),
+        };
+        assert_eq!(queue_fault(40, &whole[..used]), expected, "{used}");
+    }
+}
+
+#[test]
+fn kind_of_a_fare() {
+    for kind in 0..=0xFFFFu16 {
+        let mut used = queue_data(2, &[fare(0, &[1]), fare(1, &[2])]);
+        // The second fare's kind.
+        used[15..17].copy_from_slice(&kind.to_le_bytes());
+        let expected = (kind != 1).then_some(Fault::Queue(QueueFault::FareKind));
+        let store = queue_record(0x1000, 40, &used);
+        assert_eq!(judge_store(&store).err(), expected, "{kind:04X}");
+    }
+}
+
+#[test]
+fn numbers_of_fares() {
+    for (next, numbers) in [
+        (1, &[0][..]),
+        (4, &[0, 1, 2, 3]),
+        (4, &[3]),
+        (257, &[254, 255, 256]),
+        (0x0100_0001, &[0x00FF_FFFF, 0x0100_0000]),
+        (u32::MAX, &[u32::MAX - 3, u32::MAX - 2, u32::MAX - 1]),
+    ] {
+        assert_eq!(numbers_fault(next, numbers), None, "{numbers:?}");
+    }
+    let fare_number = Some(Fault::Queue(QueueFault::FareNumber));
+    for (next, numbers) in [
+        // The first, a middle and the last one off by one.
+        (8, &[3, 5, 6, 7][..]),
+        (8, &[5, 5, 6, 7]),
+        (8, &[4, 5, 7, 7]),
+        (8, &[4, 5, 5, 7]),
+        (8, &[4, 5, 6, 8]),
+        (8, &[4, 5, 6, 6]),
+        (8, &[7, 6, 5, 4]),
+        // More fares than numbers below the next one.
+        (1, &[u32::MAX, 0]),
+        (2, &[u32::MAX - 1, u32::MAX, 0, 1]),
+        // Most significant byte first.
+        (8, &[0x0600_0000, 0x0700_0000]),
+    ] {
+        assert_eq!(numbers_fault(next, numbers), fare_number, "{numbers:?}");
+    }
+    let next_number = Some(Fault::Queue(QueueFault::NextNumber));
+    for (next, numbers) in [
+        (7, &[4, 5, 6, 7][..]),
+        (9, &[4, 5, 6, 7]),
+        (4, &[4, 5, 6, 7]),
+        (0, &[4, 5, 6, 7]),
+        (0x0800_0000, &[4, 5, 6, 7]),
+        (0, &[0]),
+        (0, &[u32::MAX]),
+        (u32::MAX, &[u32::MAX]),
+        (0, &[u32::MAX - 1, u32::MAX]),
+    ] {
+        assert_eq!(numbers_fault(next, numbers), next_number, "{numbers:?}");
+    }
+}
+
+#[test]
+fn other_clauses_of_a_queue() {
+    let right = queue_record(0x1000, 20, &queue_data(1, &[fare(0, &[1, 2, 3])]));
+    assert_eq!(fault_of(&right), None);
+    let fault_with = |place: usize, byte: u8| {
+        let mut store = right.clone();
+        store[place] = byte;
+        fault_of(&store)
+    };
+    assert_eq!(fault_with(0, 115), Some(Fault::RecordLength));
+    assert_eq!(fault_with(3, 3), Some(Fault::Kind));
+    assert_eq!(fault_with(8, 21), Some(Fault::Used));
+    assert_eq!(fault_with(10, 0x04), Some(Fault::LifeCycle));
+    assert_eq!(fault_with(11, 1), Some(Fault::ZeroByte));
+    assert_eq!(fault_with(13, 1), Some(Fault::Expression(Slot::Change)));
+    assert_eq!(fault_with(67, 1), Some(Fault::SlotTail(Slot::Read)));
+    // 15 of 20 bytes are used.
+    for place in 96 + 15..96 + 20 {
+        assert_eq!(fault_with(place, 1), Some(Fault::DataTail));
+    }
+    let twice = [right.clone(), right.clone()].concat();
+    assert_eq!(fault_of(&twice), Some(Fault::Order));
+    for object in [0xE0C0, 0xF1C0, 0xF1C2] {
+        let fault = fault_of(&queue_record(object, 4, &[0; 4]));
+        assert_eq!(fault, Some(Fault::SessionObject));
     }
 }
 

@@ -5,14 +5,16 @@
 //!
 //! usage: host          a list of commands on standard input, a line for each, as the program `bench` prints them
 //!        host demo     a fare's story by typed calls; exits 1 at the first answer that is not the expected one
+//!        host queue    the day of a fare queue: append until it is full, upload, acknowledge, go on; exits 1 where a fare is lost, doubled or out of order
 
 use std::env;
 use std::io::{self, BufWriter, Read, Write};
 use std::process::ExitCode;
 
 use element::{
-    tag, Answer, Element, Error, Length, ObjectNumber, Offset, Refusal, Session,
-    FACTORY_STORE_SIZE, LARGEST_COMMAND, LARGEST_ROOM, LEAD, OPERATIONAL,
+    expression, kind, tag, Answer, Element, Error, FareNumber, Length, ObjectNumber, Offset,
+    Refusal, Session, CREATION, FACTORY_STORE_SIZE, HEADER, LARGEST_COMMAND, LARGEST_ROOM, LEAD,
+    OPERATIONAL, QUEUE_HEAD,
 };
 
 const LONGEST_LIST: usize = 16_384;
@@ -29,7 +31,8 @@ fn main() -> ExitCode {
     let ended = match arguments.iter().map(String::as_str).collect::<Vec<_>>()[..] {
         [] => run_input(&mut output),
         ["demo"] => run_demo(&mut output),
-        _ => Err(io::Error::other("usage: host [demo]")),
+        ["queue"] => run_queue(&mut output),
+        _ => Err(io::Error::other("usage: host [demo | queue]")),
     };
     match ended.and_then(|()| output.flush()) {
         Ok(()) => ExitCode::SUCCESS,
@@ -209,4 +212,125 @@ fn tell_list(element: &mut Element, output: &mut impl Write) -> io::Result<()> {
     tell(output, "its outcomes", Ok(&outcomes), Ok(&[0, 0]))?;
     let formed = [u8::from(element.check_store())];
     tell(output, "the store is well formed", Ok(&formed), Ok(&[1]))
+}
+
+// The day of a fare queue.
+
+const QUEUE: ObjectNumber = ObjectNumber(0xE130);
+/// Three fares of the day fit, and not four.
+const QUEUE_MAXIMUM: usize = 64;
+/// What stands before the data in a record, and the place of an expression in it.
+const RECORD_HEAD: usize = 96;
+const SLOT: usize = 28;
+
+const DAY: [&str; 10] = [
+    "BUS 4 A-C",
+    "TRAM 11 B-F",
+    "BUS 27 C-D",
+    "BUS 4 D-A",
+    "METRO 2 A-H",
+    "TRAM 9 F-B",
+    "BUS 31 A-B",
+    "BUS 4 C-E",
+    "TRAM 11 E-A",
+    "METRO 2 H-C",
+];
+
+/// What the office has received, in this order.
+type Office = Vec<(FareNumber, Vec<u8>)>;
+
+/// A store of one record: an empty queue that is always granted.
+fn queue_store() -> Vec<u8> {
+    let [size, maximum, used] =
+        [RECORD_HEAD + QUEUE_MAXIMUM, QUEUE_MAXIMUM, QUEUE_HEAD].map(|number| number as u16);
+    let mut store = [size, kind::QUEUE, QUEUE.0, maximum, used]
+        .map(u16::to_le_bytes)
+        .concat();
+    store.extend([CREATION, 0]);
+    for slot in 1..=3 {
+        store.extend([1, expression::ALWAYS]);
+        store.resize(12 + SLOT * slot, 0);
+    }
+    store.resize(size.into(), 0);
+    store
+}
+
+fn run_queue(output: &mut impl Write) -> io::Result<()> {
+    let mut store = queue_store();
+    let mut session = Session::fresh();
+    let mut element = Element::new(&mut store, &mut session);
+    element.open().map_err(io::Error::other)?;
+    let mut office = Office::new();
+    run_day(&mut element, &mut office, output)?;
+    if !all_uploaded(&office) {
+        return Err(io::Error::other("a fare is lost, doubled or out of order"));
+    }
+    let fares = office.len();
+    writeln!(
+        output,
+        "{fares} fares accepted, each uploaded once and in order"
+    )?;
+    // As after a cut of the power, where it is not known whether the acknowledgement was kept.
+    match acknowledge(&mut element, FareNumber(DAY.len() as u32 - 1), output)? {
+        Err(Error::Refused(Refusal::InvalidData)) => Ok(()),
+        came => Err(io::Error::other(outcome(came))),
+    }
+}
+
+/// A fare that a full queue refuses is appended again after the upload.
+fn run_day(element: &mut Element, office: &mut Office, output: &mut impl Write) -> io::Result<()> {
+    let mut accepted = 0;
+    while let Some(body) = DAY.get(accepted) {
+        let came = element.append(QUEUE, body.as_bytes());
+        writeln!(output, "append {body}: {}", outcome(came))?;
+        match came {
+            Ok(()) => accepted += 1,
+            Err(Error::Refused(Refusal::BoundaryExceeded)) => upload(element, office, output)?,
+            Err(error) => return Err(io::Error::other(error)),
+        }
+    }
+    upload(element, office, output)
+}
+
+/// Reads the whole queue, uploads its fares, and only then acknowledges the last of them.
+fn upload(element: &mut Element, office: &mut Office, output: &mut impl Write) -> io::Result<()> {
+    let mut room = [0; HEADER + QUEUE_MAXIMUM];
+    let queue = element.queue(QUEUE, &mut room).map_err(io::Error::other)?;
+    for fare in queue.fares() {
+        let text = String::from_utf8_lossy(fare.body);
+        writeln!(output, "upload {}: {text}", fare.number.0)?;
+        office.push((fare.number, fare.body.to_vec()));
+    }
+    match queue.fares().last() {
+        Some(last) if office.len() <= DAY.len() => {
+            acknowledge(element, last.number, output)?.map_err(io::Error::other)
+        }
+        _ => Err(io::Error::other("no fare is uploaded, or one too many")),
+    }
+}
+
+fn acknowledge(
+    element: &mut Element,
+    number: FareNumber,
+    output: &mut impl Write,
+) -> io::Result<Result<(), Error>> {
+    let came = element.acknowledge(QUEUE, number);
+    writeln!(output, "acknowledge {}: {}", number.0, outcome(came))?;
+    Ok(came)
+}
+
+fn outcome(came: Result<(), Error>) -> String {
+    match came {
+        Ok(()) => "done".to_string(),
+        Err(Error::Refused(refusal)) => format!("refused {:02X}", refusal.number()),
+        Err(error) => error.to_string(),
+    }
+}
+
+/// The office has every fare of the day, once and in order, under the numbers from 0 on.
+fn all_uploaded(office: &Office) -> bool {
+    let due = (0..)
+        .zip(DAY)
+        .map(|(number, body)| (FareNumber(number), body.as_bytes().to_vec()));
+    office.iter().cloned().eq(due)
 }

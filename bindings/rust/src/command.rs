@@ -17,6 +17,10 @@ pub const DATA: u8 = 0x00;
 pub const METADATA: u8 = 0x01;
 /// Param of set: count, a step of a counter towards its threshold.
 pub const COUNT: u8 = 0x02;
+/// Param of set: append, a fare behind the others of a queue.
+pub const APPEND: u8 = 0x04;
+/// Param of set: acknowledge, which takes a fare of a queue and all before it away.
+pub const ACKNOWLEDGE: u8 = 0x05;
 /// Param of set: make all data zero, then write.
 pub const ERASE_AND_WRITE: u8 = 0x40;
 

@@ -1,11 +1,13 @@
 //! The element over a lent store and session: calls by type, commands given as bytes, lists.
 
-use crate::command::{
-    CLOSE, COUNT, DATA, ERASE_AND_WRITE, GET, IDENTIFIER, METADATA, OPEN, REFUSED, SET,
-};
+use crate::command::{ACKNOWLEDGE, APPEND, CLOSE, COUNT, DATA, ERASE_AND_WRITE};
+use crate::command::{GET, IDENTIFIER, METADATA, OPEN, REFUSED, SET};
 use crate::library::{self, List, ANSWERED};
-use crate::{tag, Counter, Error, Refusal, Session};
-use crate::{COUNTER_SIZE, HEADER, LARGEST_COMMAND, LEAD};
+use crate::{tag, Counter, Error, FareNumber, Queue, Refusal, Session};
+use crate::{COUNTER_SIZE, HEADER, LARGEST_BODY, LARGEST_COMMAND, LEAD};
+
+/// The bytes before the body in an append, and before the number in an acknowledge: the header and the object.
+const FRONT: usize = HEADER + 2;
 
 /// The number that names an object.
 #[derive(Clone, Copy, Debug, PartialEq, Eq, PartialOrd, Ord, Hash)]
@@ -226,6 +228,120 @@ impl<'a> Element<'a> {
         self.write(object, Offset(0), &counter.to_bytes(), &mut scratch)
     }
 
+    /// Appends a fare to a queue: the body stands behind the other fares, under the queue's next number. A full queue refuses and keeps what it has.
+    ///
+    /// [`Refusal::BoundaryExceeded`] where the fare, [`FARE_HEAD`](crate::FARE_HEAD) bytes and the body, does not fit behind the others: append it again
+    /// after an [`acknowledge`](Element::acknowledge). [`Refusal::InvalidParam`] where the object is no queue, [`Refusal::InvalidLength`] where the body
+    /// is empty, [`Refusal::InsufficientBuffer`] where no number is left ([`FareNumber::NONE`]).
+    ///
+    /// [`Error::WrongSize`] where the body is over [`LARGEST_BODY`] bytes; nothing is changed then.
+    ///
+    /// ```
+    /// # use element::{kind, Element, Error, Fare, FareNumber, ObjectNumber, Refusal, Session, HEADER};
+    /// # let mut store = [96 + 32, kind::QUEUE, 0xE130, 32, 4, 1].map(u16::to_le_bytes).concat();
+    /// # for _ in 0..3 {
+    /// #     store.push(1);
+    /// #     store.resize(store.len() + 27, 0);
+    /// # }
+    /// # store.resize(96 + 32, 0);
+    /// # let mut session = Session::fresh();
+    /// # let mut element = Element::new(&mut store, &mut session);
+    /// # element.open()?;
+    /// let fares = ObjectNumber(0xE130); // a queue of 32 bytes, empty
+    /// element.append(fares, b"FARE 1")?;
+    /// element.append(fares, b"FARE 2")?;
+    /// let full = element.append(fares, b"FARE 3");
+    /// assert_eq!(full, Err(Error::Refused(Refusal::BoundaryExceeded)));
+    ///
+    /// let mut room = [0; HEADER + 32];
+    /// let queue = element.queue(fares, &mut room)?; // to be uploaded
+    /// assert_eq!(queue.fares().last(), Some(Fare { number: FareNumber(1), body: b"FARE 2" }));
+    ///
+    /// element.acknowledge(fares, FareNumber(1))?;
+    /// element.append(fares, b"FARE 3")?;
+    /// let first = element.queue(fares, &mut room)?.fares().next();
+    /// assert_eq!(first, Some(Fare { number: FareNumber(2), body: b"FARE 3" }));
+    /// # Ok::<(), Error>(())
+    /// ```
+    pub fn append(&mut self, object: ObjectNumber, body: &[u8]) -> Result<(), Error> {
+        let mut scratch = [0; FRONT + LARGEST_BODY];
+        self.change(set(APPEND, object, [], body, &mut scratch)?)
+    }
+
+    /// Acknowledges fares of a queue: the one with the number and all before it are gone. Call it once these are uploaded.
+    ///
+    /// [`Refusal::InvalidData`] where no fare present has the number, so also where it was acknowledged before; [`Refusal::InvalidParam`] where the
+    /// object is no queue.
+    ///
+    /// ```
+    /// # use element::{kind, Element, Error, FareNumber, ObjectNumber, Refusal, Session, HEADER};
+    /// # let mut store = [96 + 32, kind::QUEUE, 0xE130, 32, 4, 1].map(u16::to_le_bytes).concat();
+    /// # for _ in 0..3 {
+    /// #     store.push(1);
+    /// #     store.resize(store.len() + 27, 0);
+    /// # }
+    /// # store.resize(96 + 32, 0);
+    /// # let mut session = Session::fresh();
+    /// # let mut element = Element::new(&mut store, &mut session);
+    /// # element.open()?;
+    /// let fares = ObjectNumber(0xE130);
+    /// element.append(fares, b"FARE 1")?;
+    /// element.acknowledge(fares, FareNumber(0))?;
+    /// let again = element.acknowledge(fares, FareNumber(0));
+    /// assert_eq!(again, Err(Error::Refused(Refusal::InvalidData)));
+    /// # Ok::<(), Error>(())
+    /// ```
+    pub fn acknowledge(&mut self, object: ObjectNumber, number: FareNumber) -> Result<(), Error> {
+        let mut scratch = [0; FRONT + 4];
+        let number = number.0.to_be_bytes();
+        self.change(set(ACKNOWLEDGE, object, number, &[], &mut scratch)?)
+    }
+
+    /// Reads all of a queue into the room and gives it. The room has [`HEADER`] bytes more than what is in use; as many more than the queue's maximum
+    /// are always enough. The record's kind is not looked at: other data that has the bytes of a queue is read so.
+    ///
+    /// [`Error::WrongSize`] where the bytes are no queue; what the read expression names is used up then too.
+    ///
+    /// ```
+    /// # use element::{kind, Element, Error, FareNumber, ObjectNumber, Session, HEADER};
+    /// # let mut store = [96 + 32, kind::QUEUE, 0xE130, 32, 4, 1].map(u16::to_le_bytes).concat();
+    /// # for _ in 0..3 {
+    /// #     store.push(1);
+    /// #     store.resize(store.len() + 27, 0);
+    /// # }
+    /// # store.resize(96 + 32, 0);
+    /// # let mut session = Session::fresh();
+    /// # let mut element = Element::new(&mut store, &mut session);
+    /// # element.open()?;
+    /// let fares = ObjectNumber(0xE130); // a queue of 32 bytes, empty
+    /// element.append(fares, b"FARE 1")?;
+    /// element.append(fares, b"FARE 2")?;
+    ///
+    /// let mut room = [0; HEADER + 32];
+    /// let queue = element.queue(fares, &mut room)?;
+    /// let bodies: Vec<_> = queue.fares().map(|fare| fare.body).collect();
+    /// assert_eq!(bodies, [b"FARE 1", b"FARE 2"]);
+    /// assert_eq!(queue.next_number(), FareNumber(2));
+    ///
+    /// let error = element.queue(ObjectNumber::LAST_ERROR, &mut room);
+    /// assert_eq!(error, Err(Error::WrongSize));
+    /// # Ok::<(), Error>(())
+    /// ```
+    pub fn queue<'r>(
+        &mut self,
+        object: ObjectNumber,
+        room: &'r mut [u8],
+    ) -> Result<Queue<'r>, Error> {
+        let before = *self.session;
+        let data = self.read(object, Offset(0), Length::ALL, room)?;
+        let Some(queue) = Queue::from_bytes(data) else {
+            // Of the last error the one byte was given, and so cleared.
+            *self.session = before;
+            return Err(Error::WrongSize);
+        };
+        Ok(queue)
+    }
+
     /// Reads the metadata of an object into the room and gives its fields, those behind 20 and L, with the tags of [`tag`].
     pub fn metadata<'r>(
         &mut self,
@@ -369,22 +485,24 @@ fn response(room: &[u8]) -> &[u8] {
     }
 }
 
-/// Puts a set command together at the front of the scratch: two bytes stand between the object and what is written.
-fn set<'s>(
+/// Puts a set command together at the front of the scratch: `between` stands between the object and what is written.
+fn set<'s, const N: usize>(
     param: u8,
     object: ObjectNumber,
-    between: [u8; 2],
+    between: [u8; N],
     written: &[u8],
     scratch: &'s mut [u8],
 ) -> Result<&'s [u8], Error> {
-    let length = LEAD + written.len();
+    let length = FRONT + N + written.len();
     if length > LARGEST_COMMAND {
         return Err(Error::WrongSize);
     }
     let command = scratch.get_mut(..length).ok_or(Error::WrongSize)?;
-    let (lead, rest) = command.split_at_mut_checked(LEAD).ok_or(Error::WrongSize)?;
-    let [in_len, object] = [(length - HEADER) as u16, object.0].map(u16::to_be_bytes);
-    lead.copy_from_slice([[SET, param], in_len, object, between].as_flattened());
+    let (front, rest) = command.split_first_chunk_mut().ok_or(Error::WrongSize)?;
+    let (middle, rest) = rest.split_first_chunk_mut().ok_or(Error::WrongSize)?;
+    let [[a, b], [c, d]] = [(length - HEADER) as u16, object.0].map(u16::to_be_bytes);
+    *front = [SET, param, a, b, c, d];
+    *middle = between;
     rest.copy_from_slice(written);
     Ok(command)
 }
@@ -410,6 +528,19 @@ mod tests {
         let expected = [2, 0, 0, 7, 0xF1, 0xD0, 0, 9, 1, 2, 3];
         assert_eq!(command, Ok(&expected[..]));
         assert_eq!(scratch[11], 0xEE);
+    }
+
+    #[test]
+    fn an_append_has_its_body_behind_the_object() {
+        let mut scratch = [0xEE; 9];
+        let command = set(APPEND, FARES, [], &[1, 2], &mut scratch);
+        assert_eq!(command, Ok(&[2, 4, 0, 4, 0xF1, 0xD0, 1, 2][..]));
+        assert_eq!(scratch[8], 0xEE);
+        let command = set(ACKNOWLEDGE, FARES, [9, 8, 7, 6], &[], &mut scratch[..8]);
+        assert_eq!(command, Err(Error::WrongSize));
+        let mut scratch = [0xEE; 10];
+        let command = set(ACKNOWLEDGE, FARES, [9, 8, 7, 6], &[], &mut scratch);
+        assert_eq!(command, Ok(&[2, 5, 0, 6, 0xF1, 0xD0, 9, 8, 7, 6][..]));
     }
 
     #[test]

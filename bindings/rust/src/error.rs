@@ -16,23 +16,24 @@ use core::fmt;
 pub enum Refusal {
     /// No such object.
     InvalidObject = 0x01,
-    /// Unknown Param for this Cmd, or a count of what is no counter.
+    /// Unknown Param for this Cmd, a count of what is no counter, or an append or acknowledge of what is no queue.
     InvalidParam = 0x03,
     /// The command's length, or its InLen, is wrong.
     InvalidLength = 0x04,
-    /// Metadata, life cycle value or application identifier not allowed.
+    /// Metadata, life cycle value or application identifier not allowed; no fare present has the number (acknowledge).
     InvalidData = 0x05,
     /// The store is malformed, or LcsG or LcsA is no state.
     InternalError = 0x06,
-    /// The access condition does not hold: a life cycle state, or a counter that is used up.
+    /// The access condition does not hold: a life cycle state, or a counter that is used up. Or a write to a queue.
     AccessDenied = 0x07,
-    /// An offset past the bytes in use (get); past the maximum, or not all of a counter (write); at the threshold, or not at offset 0 (count).
+    /// An offset past the bytes in use (get); past the maximum, or not all of a counter (write); at the threshold, or not at offset 0 (count); the fare
+    /// does not fit behind the others (append).
     BoundaryExceeded = 0x08,
     /// Unknown Cmd.
     InvalidCommand = 0x0A,
     /// The application is closed, or terminated.
     NotAvailable = 0x0C,
-    /// The response does not fit the room.
+    /// The response does not fit the room; no number is left (append).
     InsufficientBuffer = 0x0D,
 }
 
@@ -62,19 +63,23 @@ impl Refusal {
     const fn text(self) -> &'static str {
         match self {
             Refusal::InvalidObject => "no such object",
-            Refusal::InvalidParam => "unknown Param for this Cmd, or a count of what is no counter",
+            Refusal::InvalidParam => {
+                "unknown Param for this Cmd, a count of what is no counter, or an append or acknowledge of what is no queue"
+            }
             Refusal::InvalidLength => "the command's length, or its InLen, is wrong",
             Refusal::InvalidData => {
-                "metadata, life cycle value or application identifier not allowed"
+                "metadata, life cycle value or application identifier not allowed; no fare present has the number (acknowledge)"
             }
             Refusal::InternalError => "the store is malformed, or LcsG or LcsA is no state",
             Refusal::AccessDenied => "the access condition does not hold",
             Refusal::BoundaryExceeded => {
-                "an offset past the bytes in use (get); past the maximum, or not all of a counter (write); at the threshold, or not at offset 0 (count)"
+                "an offset past the bytes in use (get); past the maximum, or not all of a counter (write); at the threshold, or not at offset 0 (count); the fare does not fit behind the others (append)"
             }
             Refusal::InvalidCommand => "unknown Cmd",
             Refusal::NotAvailable => "the application is closed, or terminated",
-            Refusal::InsufficientBuffer => "the response does not fit the room",
+            Refusal::InsufficientBuffer => {
+                "the response does not fit the room; no number is left (append)"
+            }
         }
     }
 }
@@ -93,8 +98,8 @@ pub enum Error {
     /// The room is under [`LEAST_ROOM`](crate::LEAST_ROOM) bytes; nothing is changed.
     NoRoom,
     /// A buffer has not the size that the call needs, or what is to be written fits no command; nothing is changed. Or
-    /// [`Element::counter`](crate::Element::counter) was given fewer bytes than a counter has: then its read is done, and has used up what the read
-    /// expression names; all else is as before.
+    /// [`Element::counter`](crate::Element::counter) was given fewer bytes than a counter has, or [`Element::queue`](crate::Element::queue) bytes that
+    /// are no queue: then the read is done, and has used up what the read expression names; all else is as before.
     WrongSize,
     /// The element refused the command, with this number of its own; of store and session only the last error is changed.
     Refused(Refusal),
@@ -105,7 +110,7 @@ impl fmt::Display for Error {
         match self {
             Error::NoRoom => out.write_str("the room is under 4 bytes"),
             Error::WrongSize => {
-                out.write_str("a buffer has the wrong size, its bytes fit no command, or an object has too few for a counter")
+                out.write_str("a buffer has the wrong size, its bytes fit no command, or an object's data is no counter or no queue")
             }
             Error::Refused(refusal) => write!(out, "refused {refusal}"),
         }

@@ -26,7 +26,11 @@
 //! [`Element::set_counter`] read and set its [`Counter`]. The factory's store has none; [`kind`] says how a record tells that it is one. An access
 //! expression may ask for a counter, and each command that it grants then uses that up by one: [`expression::counter`].
 //!
-//! The crate needs `core` only and takes no memory of its own: all buffers are lent, and no call has a large one on the stack. No input panics.
+//! A store may hold queues of fares: [`Element::append`] puts a fare behind the others, and a full queue refuses it; [`Element::queue`] reads the fares
+//! with their numbers, and [`Element::acknowledge`] takes away those that are uploaded. Nothing else takes a fare away.
+//!
+//! The crate needs `core` only and takes no memory of its own: all buffers are lent, and no call has a large one on the stack (an append has the
+//! largest, 206 bytes). No input panics.
 //! A command may also be given as bytes: [`Element::send`], [`Element::carry_out`] and, for a list, [`Element::run`].
 #![no_std]
 #![deny(missing_docs, unsafe_code, unsafe_op_in_unsafe_fn)]
@@ -35,6 +39,7 @@ mod counter;
 mod element;
 mod error;
 mod library;
+mod queue;
 mod session;
 
 pub mod command;
@@ -46,6 +51,7 @@ pub use counter::Counter;
 pub use element::{Answer, Element, Length, ObjectNumber, Offset};
 pub use error::{Error, Refusal};
 pub use library::check_store;
+pub use queue::{Fare, FareNumber, Fares, Queue};
 pub use session::Session;
 
 /// The exact size of the store that [`Element::factory`] fills.
@@ -56,6 +62,14 @@ pub const LARGEST_STORE: usize = 16384;
 pub const LARGEST_OBJECT: usize = 1500;
 /// The data of a counter: maximum and used of each.
 pub const COUNTER_SIZE: usize = 8;
+/// The next number of a queue, which stands before its fares: the data of an empty queue, and the least maximum of one.
+pub const QUEUE_HEAD: usize = 4;
+/// What stands before the body in a fare: length, kind and number.
+pub const FARE_HEAD: usize = 8;
+/// The kind that stands in every fare.
+pub const FARE_KIND: u16 = 0x0001;
+/// The most bytes of a fare's body; it has at least one.
+pub const LARGEST_BODY: usize = 200;
 /// The most bytes of a command; scratch for every write.
 pub const LARGEST_COMMAND: usize = 1557;
 /// The bytes before InData in a command and before OutData in a response.

@@ -1,5 +1,5 @@
 //! The constants are those of include/element.h.
-use element::{command, expression, kind, Length, ObjectNumber, Refusal};
+use element::{command, expression, kind, FareNumber, Length, ObjectNumber, Refusal};
 
 fn text() -> String {
     let path = concat!(env!("CARGO_MANIFEST_DIR"), "/../../include/element.h");
@@ -61,6 +61,8 @@ fn codes() -> Vec<(&'static str, usize)> {
         ("DATA", command::DATA),
         ("METADATA", command::METADATA),
         ("COUNT", command::COUNT),
+        ("APPEND", command::APPEND),
+        ("ACKNOWLEDGE", command::ACKNOWLEDGE),
         ("ERASE_AND_WRITE", command::ERASE_AND_WRITE),
         ("ALWAYS", expression::ALWAYS),
         ("NEVER", expression::NEVER),
@@ -86,8 +88,13 @@ fn sizes() -> Vec<(&'static str, usize)> {
         ("WHOLE", Length::ALL.0.into()),
         ("KIND_DATA", kind::DATA.into()),
         ("KIND_COUNTER_UP", kind::COUNTER_UP.into()),
+        ("KIND_QUEUE", kind::QUEUE.into()),
         ("KIND_COUNTER_DOWN", kind::COUNTER_DOWN.into()),
         ("COUNTER_SIZE", element::COUNTER_SIZE),
+        ("QUEUE_HEAD", element::QUEUE_HEAD),
+        ("FARE_HEAD", element::FARE_HEAD),
+        ("FARE_KIND", element::FARE_KIND.into()),
+        ("LARGEST_BODY", element::LARGEST_BODY),
         ("IDENTIFIER_SIZE", command::IDENTIFIER.len()),
         ("FACTORY_STORE_SIZE", element::FACTORY_STORE_SIZE),
         ("LARGEST_STORE", element::LARGEST_STORE),
@@ -120,6 +127,12 @@ fn the_version_begins_with_that_of_the_header() {
         let line = format!("#define ELEMENT_VERSION_{name} {number}");
         assert!(text().lines().any(|other| other == line), "{line}");
     }
+}
+
+#[test]
+fn the_number_that_no_fare_has_is_that_of_the_header() {
+    let line = format!("#define ELEMENT_NO_NUMBER 0x{:08X}U", FareNumber::NONE.0);
+    assert!(text().lines().any(|other| other == line), "{line}");
 }
 
 #[test]

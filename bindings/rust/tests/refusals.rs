@@ -204,9 +204,9 @@ fn numbers_and_refusals_go_both_ways() {
 #[test]
 fn errors_say_what_is_wrong() {
     let full = Error::Refused(Refusal::BoundaryExceeded);
-    let text = "refused 08: an offset past the bytes in use (get); past the maximum, or not all of a counter (write); at the threshold, or not at offset 0 (count)";
+    let text = "refused 08: an offset past the bytes in use (get); past the maximum, or not all of a counter (write); at the threshold, or not at offset 0 (count); the fare does not fit behind the others (append)";
     assert_eq!(full.to_string(), text);
     assert_eq!(Error::NoRoom.to_string(), "the room is under 4 bytes");
-    let text = "a buffer has the wrong size, its bytes fit no command, or an object has too few for a counter";
+    let text = "a buffer has the wrong size, its bytes fit no command, or an object's data is no counter or no queue";
     assert_eq!(Error::WrongSize.to_string(), text);
 }

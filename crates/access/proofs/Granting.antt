@@ -11,13 +11,14 @@ use Rattle.rules.specs.declared.Session.{Session}
 use Rattle.rules.specs.declared.Found.{Found}
 use Rattle.rules.specs.declared.Found.the-variants.{At, Nothing}
 use Rattle.rules.specs.declared.Action.{Action}
-use Rattle.rules.specs.declared.Action.the-variants.{SetMetadata}
+use Rattle.rules.specs.declared.Action.the-variants.{Write, SetMetadata}
+use Rattle.rules.specs.declared.Kind.the-variants.{Queue}
 use Rattle.rules.specs.declared.Slot.{Slot}
 use Rattle.rules.specs.declared.Slot.the-variants.{Change}
 use Rattle.rules.specs.Basic.{if_then_else_, is-some}
 use Rattle.rules.specs.Expression.{Condition, Group, just, _and_, Groups, only, _or_, Expression, always, never, when, slot-size}
 use Rattle.rules.specs.Expression.{condition-bytes, group-bytes, groups-bytes, expression-bytes, read-expression, expression}
-use Rattle.rules.specs.Object.{expression-in, of-session}
+use Rattle.rules.specs.Object.{expression-in, is, of-session}
 use Rattle.rules.specs.Access.{Seen, seen-in, condition-holds, group-holds, condition-counters, group-counters, Grant, grant-if, groups-grant, grant, asked, access}
 use Rattle.laws.proofs.Tests.{and-assoc}
 use Rattle.laws.proofs.Expressions.{groups-length, groups-two, expression-length, read-bytes}
@@ -193,7 +194,24 @@ module _ (p : ℕ) (b : List ℕ) (t : Stored p b) where
   unfolding asked expression-in
   set-asks = rw (stored-kind p b t)
 
+  -- a plain write: whether the object is a queue was called
+  module _ (r : Bool) (q : r ≡ is Queue (object-at p b .kind)) where
+    pub queue-closed : (s : Session) (g : Grant) → r ≡ true → g ≡ grant-if false [] → g ≡ access Write (object-at p b) (seen-in b s)
+    unfolding access asked grant
+    queue-closed s g h f = f ∙ rw (← q, h)
+
+    pub queue-open : (s : Session) (g : Grant) → r ≡ false →
+        g ≡ grant (seen-in b s) (object-at p b .lcso) (expression-in Change (object-at p b)) → g ≡ access Write (object-at p b) (seen-in b s)
+    unfolding access asked expression-in
+    queue-open s g h f = f ∙ rw (← q, h)
+
   module _ (a : Action) (s : Session) (g : Grant) where
+    -- where it asks what a plain write does
+    pub as-write : (v : Action) → a ≡ v → asked v (object-at p b) ≡ asked Write (object-at p b) →
+        g ≡ access Write (object-at p b) (seen-in b s) → g ≡ access a (object-at p b) (seen-in b s)
+    unfolding access
+    as-write v e q h = h ∙ ap (grant (seen-in b s) (object-at p b .lcso)) (sym q ∙ ap (λ x. asked x (object-at p b)) (sym e))
+
     -- where it is free of a stored object
     pub free : (v : Action) → a ≡ v → asked v (object-at p b) ≡ (if of-session (object-at p b .kind) then never else always) →
         g ≡ grant-if true [] → g ≡ access a (object-at p b) (seen-in b s)

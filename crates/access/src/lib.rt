@@ -10,6 +10,7 @@ ghost use mathlib.Core.List.{[], _∷_, _++_};
 ghost use mathlib.Core.Option.{some};
 ghost use Prim.Native.Nat.{_+_, _≤_, _<_};
 ghost use lib.ListN.{length, drop};
+ghost use Rattle.rules.specs.declared.Action.the-variants.{Write};
 ghost use Rattle.rules.specs.Basic.{if_then_else_, is-some, or-else};
 ghost use Rattle.rules.specs.Expression.{slot-size, most-conditions, expression, read-expression};
 ghost use Rattle.rules.specs.Object.{expression-in};
@@ -240,6 +241,18 @@ fn slot_grant(store: &[u8], at: usize, slot: Slot, session: Session) -> Grant
     grant_of(part, store, session, record::lcso_at(store, at))
 }
 
+// What is granted to a plain write, erasing or not: nothing at a queue, whatever its change expression says.
+fn plain_write_grant(store: &[u8], at: usize, session: Session) -> Grant
+    requires { ⌜ Stored at (now store) × (is-some (unpack (now store)) ≡ true) ⌝ }
+    ensures { λ r. ⌜ (r .counters .count ≤ most-conditions slot-size)
+        × (told r ≡ access Write (object-at at (now (store .entry))) (seen-in (now (store .entry)) session)) ⌝ }
+{
+    if record::is_queue(store, at) {
+        return without_counters(false);
+    }
+    slot_grant(store, at, Slot::Change, session)
+}
+
 // What is granted to an action on a found record.
 pub fn granted(asked: Action, store: &[u8], at: usize, session: Session) -> Grant
     requires { ⌜ Stored at (now store) × (is-some (unpack (now store)) ≡ true) ⌝ }
@@ -249,9 +262,11 @@ pub fn granted(asked: Action, store: &[u8], at: usize, session: Session) -> Gran
     match asked {
         Action::GetData => slot_grant(store, at, Slot::Read, session),
         Action::GetMetadata => without_counters(true),
-        Action::Write => slot_grant(store, at, Slot::Change, session),
-        Action::EraseAndWrite => slot_grant(store, at, Slot::Change, session),
+        Action::Write => plain_write_grant(store, at, session),
+        Action::EraseAndWrite => plain_write_grant(store, at, session),
         Action::SetMetadata => slot_grant(store, at, Slot::Change, session),
         Action::Count => slot_grant(store, at, Slot::Change, session),
+        Action::Append => slot_grant(store, at, Slot::Change, session),
+        Action::Acknowledge => slot_grant(store, at, Slot::Change, session),
     }
 }

@@ -10,9 +10,9 @@ use lib.ListN.{length, getD, take, drop}
 use lib.Seq.{getD-drop}
 use Rattle.rules.specs.declared.Session.{Session}
 use Rattle.rules.specs.declared.Action.{Action}
-use Rattle.rules.specs.declared.Action.the-variants.{GetData, GetMetadata, Write, SetMetadata, Count}
+use Rattle.rules.specs.declared.Action.the-variants.{GetData, GetMetadata, Write, SetMetadata, Count, Append, Acknowledge}
 use Rattle.rules.specs.Basic.{if_then_else_}
-use Rattle.rules.specs.Command.{offset, asked-length, sent-data, step-byte, sent-metadata}
+use Rattle.rules.specs.Command.{offset, asked-length, sent-data, step-byte, sent-metadata, sent-body, sent-number}
 use Rattle.rules.specs.Response.{done-response, put-in-front}
 use Rattle.rules.specs.Object.{Object, used, of-session, is-counter, with-content}
 use Rattle.rules.specs.Metadata.{metadata, metadata-allowed, sent-fields, with-fields}
@@ -23,6 +23,7 @@ use Rattle.record.specs.Places.{object-at, Stored, with-record}
 use Rattle.laws.proofs.Puts.{shown-length, shown-part, shown-byte}
 use Rattle.record.proofs.Standing.{stored-kind}
 use Rattle.change.specs.Change.{counted-at}
+use Rattle.fares.specs.Queued.{MayAppend, MayAcknowledge, appended-at, acknowledged-at}
 use Rattle.act.specs.Acting.{session-does, record-does, InSessionMay, OnRecordMay, stored-at}
 
 -- `show_byte` and `show_data` ---------------------------------------------------------------------------------------------------
@@ -112,6 +113,18 @@ module _ (a v : Action) (e : a ≡ v) (c : List ℕ) (room : ℕ) where
     pub counter-there : v ≡ Count → is-counter (object-at p b .kind) ≡ true
     counter-there d = (rw (e ∙ d) at m) .0
 
+    pub append-answered : v ≡ Append → 4 ≤ room
+    append-answered d = (rw (e ∙ d) at m) .1
+
+    pub append-allowed : (body : List ℕ) → body ≡ sent-body c → v ≡ Append → MayAppend (object-at p b) body
+    append-allowed body eb d = rw eb ((rw (e ∙ d) at m) .0)
+
+    pub acknowledge-answered : v ≡ Acknowledge → 4 ≤ room
+    acknowledge-answered d = (rw (e ∙ d) at m) .1
+
+    pub acknowledge-allowed : (n : ℕ) → n ≡ sent-number c → v ≡ Acknowledge → MayAcknowledge (object-at p b) n
+    acknowledge-allowed n en d = rw en ((rw (e ∙ d) at m) .0)
+
     pub set-allowed : (d : List ℕ) → d ≡ sent-metadata c → v ≡ SetMetadata → metadata-allowed (object-at p b .lcso) d ≡ true
     set-allowed d ed s = rw ed ((rw (e ∙ s) at m) .0)
 
@@ -151,3 +164,9 @@ module _ (p : ℕ) (b c r : List ℕ) where
 
   pub count-store : (step : ℕ) → step ≡ step-byte c → r ≡ counted-at p step b → r ≡ counted-at p (step-byte c) b
   count-store step es f = rw (← es) f
+
+  pub append-store : (body : List ℕ) → body ≡ sent-body c → r ≡ appended-at p body b → r ≡ appended-at p (sent-body c) b
+  append-store body eb f = rw (← eb) f
+
+  pub acknowledge-store : (n : ℕ) → n ≡ sent-number c → r ≡ acknowledged-at p n b → r ≡ acknowledged-at p (sent-number c) b
+  acknowledge-store n en f = rw (← en) f

@@ -8,8 +8,8 @@ use lib.ListN.{length}
 use Rattle.rules.specs.declared.Session.{Session}
 use Rattle.rules.specs.declared.Kind.the-variants.{LifeCycle}
 use Rattle.rules.specs.declared.Action.{Action}
-use Rattle.rules.specs.declared.Action.the-variants.{GetData, GetMetadata, Write, EraseAndWrite, SetMetadata, Count}
-use Rattle.rules.specs.Command.{offset, sent-data, sent-metadata}
+use Rattle.rules.specs.declared.Action.the-variants.{GetData, GetMetadata, Write, EraseAndWrite, SetMetadata, Count, Append, Acknowledge}
+use Rattle.rules.specs.Command.{offset, sent-data, sent-metadata, sent-body, sent-number}
 use Rattle.rules.specs.Response.{done-response, put-in-front}
 use Rattle.rules.specs.Object.{Object, used, is-counter}
 use Rattle.rules.specs.Factory.{fresh-session}
@@ -18,6 +18,7 @@ use Rattle.rules.specs.Metadata.{metadata, metadata-allowed}
 use Rattle.rules.specs.Access.{seen}
 use Rattle.rules.specs.Operation.{Operation, shown, operation}
 use Rattle.record.specs.Places.{with-record}
+use Rattle.fares.specs.Queued.{MayAppend, MayAcknowledge}
 
 -- a room that is answered with these bytes
 abbrev pub done-with : (out room : List ℕ) → List ℕ
@@ -44,6 +45,8 @@ InSessionMay Write c byte room = 4 ≤ room
 InSessionMay EraseAndWrite c byte room = 4 ≤ room
 InSessionMay SetMetadata c byte room = ⊥
 InSessionMay Count c byte room = ⊥
+InSessionMay Append c byte room = ⊥
+InSessionMay Acknowledge c byte room = ⊥
 
 abbrev pub OnRecordMay : Action → List ℕ → Object → ℕ → Type 0
 OnRecordMay GetData c o room = (offset c ≤ used o) × (4 + length (shown c (o .content)) ≤ room)
@@ -52,3 +55,5 @@ OnRecordMay Write c o room = (offset c + length (sent-data c) ≤ o .maximum) ×
 OnRecordMay EraseAndWrite c o room = (offset c + length (sent-data c) ≤ o .maximum) × (4 ≤ room)
 OnRecordMay SetMetadata c o room = (metadata-allowed (o .lcso) (sent-metadata c) ≡ true) × (4 ≤ room)
 OnRecordMay Count c o room = (is-counter (o .kind) ≡ true) × (4 ≤ room)
+OnRecordMay Append c o room = MayAppend o (sent-body c) × (4 ≤ room)
+OnRecordMay Acknowledge c o room = MayAcknowledge o (sent-number c) × (4 ≤ room)

@@ -59,7 +59,7 @@ fn set_state(command: &[u8], number: ObjectNumber, session: Session, room: &mut 
     session::with_state(number, command[8], session)
 }
 
-// At an object of the session: the session after it. Its metadata, and a count of it, were refused before.
+// At an object of the session: the session after it. Its metadata, a count, an append and an acknowledgement were refused before.
 pub fn act_in_session(
     asked: Action,
     command: &[u8],
@@ -79,6 +79,8 @@ pub fn act_in_session(
         Action::EraseAndWrite => set_state(command, number, session, room),
         Action::SetMetadata => session,
         Action::Count => session,
+        Action::Append => session,
+        Action::Acknowledge => session,
     }
 }
 
@@ -121,6 +123,14 @@ pub fn act_on_record(asked: Action, command: &[u8], store: &mut [u8], at: usize,
         }
         Action::Count => {
             change::count(store, at, command::step_byte(command));
+            response::done(room);
+        }
+        Action::Append => {
+            fares::append(store, at, command::sent_body(command));
+            response::done(room);
+        }
+        Action::Acknowledge => {
+            fares::acknowledge(store, at, command::sent_number(command));
             response::done(room);
         }
     }

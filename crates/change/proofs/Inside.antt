@@ -15,7 +15,7 @@ unfolding over
 over-behind p k q a x h = rw (← h) (simp (add-assoc, take-append-add, drop-append-add, append-assoc))
 
 -- before other bytes
-over-before : (k : ℕ) (q x c : List ℕ) → k + length q ≤ length x → over k q (x ++ c) ≡ over k q x ++ c
+pub over-before : (k : ℕ) (q x c : List ℕ) → k + length q ≤ length x → over k q (x ++ c) ≡ over k q x ++ c
 unfolding over
 over-before k q x c l = rw (take-append-le k x c (omega arith), drop-append-le (k + length q) x c l) (simp append-assoc)
 

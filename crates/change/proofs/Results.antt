@@ -81,7 +81,7 @@ module _ (p : ℕ) (b : List ℕ) (s : Stored p b) where
       rw (add-assoc p head-size k, put-into 8 (little-endian v) (omega arith), inside, c, data-record (object-at p b) ok k src new e)
 
   -- all of the data part anew
-  whole-by : (v : ℕ) (d new : List ℕ) → v ≡ length new → length d ≡ object-at p b .maximum → d ≡ padded (object-at p b .maximum) new →
+  pub whole-by : (v : ℕ) (d new : List ℕ) → v ≡ length new → length d ≡ object-at p b .maximum → d ≡ padded (object-at p b .maximum) new →
       over (p + head-size) d (over (p + 8) (little-endian v) b) ≡ with-record p (with-content new (object-at p b)) b
   whole-by v d new c l q =
       let o = object-at p b in

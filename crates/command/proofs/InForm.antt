@@ -1,6 +1,6 @@
 -- What callers learn of a command that passed the steps 2 to 8.
 use Prim.Native.Nat.{ℕ, _+_, _-_, _≤_}
-use mathlib.Core.Path.{_≡_, ap}
+use mathlib.Core.Path.{_≡_, ap, _∙_}
 use mathlib.Core.List.{List}
 use mathlib.Core.Bool.{Bool, not, _||_}
 use native.Mathlib.Omega.{arith}
@@ -17,8 +17,8 @@ use Rattle.rules.specs.Expression.{is-state}
 use Rattle.rules.specs.Refusals.{early, unsound, ill-sized, unknown-param}
 use Rattle.laws.proofs.Tests.{or-parts}
 use Rattle.laws.proofs.Verdicts.{early-passed}
-use Rattle.laws.proofs.Rows.{on-object, in-full, sized}
-use Rattle.command.specs.Table.{action-sizes, InFull}
+use Rattle.laws.proofs.Rows.{on-object, in-full, sized, body-sent}
+use Rattle.command.specs.Table.{action-sizes, InFull, BodySent}
 use Rattle.command.specs.InForm.{InForm}
 use Rattle.command.proofs.Table.{sizes-alike}
 
@@ -40,6 +40,10 @@ module _ (sound : Bool) (c : List ℕ) (s : Session) where
   -- a command has the bytes that its action asks at least
   pub action-in-full : (a : Action) → early sound c s ≡ Accepted → row c ≡ OnObject a → InFull a c
   action-in-full a h e = omega (arith, in-full sound c s h, ap (λ (z : Sizes). z .least) (rw e at (sizes-alike c)))
+
+  -- and of an append, a body that is allowed
+  pub action-body : (a : Action) → early sound c s ≡ Accepted → row c ≡ OnObject a → BodySent a c
+  action-body a h e p = body-sent sound c s h (e ∙ ap OnObject p)
 
   -- the object's number is there
   pub object-long : (a : Action) → early sound c s ≡ Accepted → row c ≡ OnObject a → 6 ≤ length c

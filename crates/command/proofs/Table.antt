@@ -3,13 +3,14 @@ use Prim.Native.Nat.{ℕ}
 use mathlib.Core.Bool.{Bool, true, false, _&&_}
 use mathlib.Core.List.{List, [], _∷_}
 use mathlib.Core.Path.{_≡_, refl}
+use borrow.Author.Tests.{ne-eqb}
 use lib.Dec.{eqb}
 use Rattle.rules.specs.declared.Row.{Row}
 use Rattle.rules.specs.declared.Row.the-variants.{OnObject, OpenApplication, CloseApplication, Unknown}
 use Rattle.rules.specs.Basic.{if_then_else_, same}
 use Rattle.rules.specs.Command.{Line, anything, identifier, table-line, command-table, no-line, line-in, line-of, cmd, param, row}
 use Rattle.laws.proofs.Rows.{every-line}
-use Rattle.command.specs.Table.{row-in, row-sizes}
+use Rattle.command.specs.Table.{row-in, session-row, row-sizes}
 
 pub rows-alike : (ls : List Line) (c p : ℕ) → row-in ls c p ≡ line-in ls c p .row
 unfolding row-in line-in no-line table-line
@@ -35,3 +36,8 @@ takes Unknown b = true
 pub takes-alike : (c b : List ℕ) → takes (row c) b ≡ line-of c .takes b
 unfolding row line-of command-table table-line no-line anything
 takes-alike c b = every-line (λ l. takes (l .row) b ≡ l .takes b) command-table (cmd c) (param c) (search) refl
+
+-- the row of a Cmd that neither gets nor sets
+pub other-rows : (c p : ℕ) (r : Row) → (c ≡ 0x01 → ⊥) → (c ≡ 0x02 → ⊥) → r ≡ session-row c p → r ≡ row-in command-table c p
+unfolding row-in session-row command-table table-line
+other-rows c p r g s e = rw (ne-eqb c 0x01 g, ne-eqb c 0x02 s) e

@@ -13,12 +13,12 @@ ghost use Prim.Native.Nat.{_≤_};
 ghost use lib.ListN.{length};
 ghost use Rattle.rules.specs.Basic.{same};
 ghost use Rattle.rules.specs.Command.{asks-flush, cmd, command-table, row, known-cmd, size-right};
-ghost use Rattle.rules.specs.Command.{object-number, offset, asked-length, sent-data, step-byte, sent-metadata};
+ghost use Rattle.rules.specs.Command.{object-number, offset, asked-length, sent-data, step-byte, sent-metadata, sent-body, sent-number};
 ghost use Rattle.rules.specs.Refusals.{unsound, ill-sized, unknown-cmd, unusable, unknown-param, wrong-length, wrong-content};
 ghost use Rattle.rules.specs.Refusals.{early};
 ghost use Rattle.rules.specs.Response.{code};
 ghost use Rattle.rules.specs.Step.{flushed};
-ghost use Rattle.command.specs.Table.{row-in, action-sizes, row-sizes};
+ghost use Rattle.command.specs.Table.{row-in, session-row, action-sizes, row-sizes};
 
 // The parts of a command.
 
@@ -40,27 +40,48 @@ fn cmd(command: &[u8]) -> u8
     command[0] % 0x80
 }
 
-fn row_of(cmd: u8, param: u8) -> Row
-    ensures { λ r. ⌜ r ≡ row-in command-table cmd param ⌝ }
+// The row of a get's Param.
+fn get_row(param: u8) -> Row
+    ensures { λ r. ⌜ r ≡ row-in command-table 0x01 param ⌝ }
 {
-    if primitives::and(cmd == 0x01, param == 0x00) {
+    if param == 0x00 {
         return Row::OnObject(Action::GetData);
     }
-    if primitives::and(cmd == 0x01, param == 0x01) {
+    if param == 0x01 {
         return Row::OnObject(Action::GetMetadata);
     }
-    if primitives::and(cmd == 0x02, param == 0x00) {
+    Row::Unknown
+}
+
+// The row of a set's Param.
+fn set_row(param: u8) -> Row
+    ensures { λ r. ⌜ r ≡ row-in command-table 0x02 param ⌝ }
+{
+    if param == 0x00 {
         return Row::OnObject(Action::Write);
     }
-    if primitives::and(cmd == 0x02, param == 0x40) {
+    if param == 0x40 {
         return Row::OnObject(Action::EraseAndWrite);
     }
-    if primitives::and(cmd == 0x02, param == 0x01) {
+    if param == 0x01 {
         return Row::OnObject(Action::SetMetadata);
     }
-    if primitives::and(cmd == 0x02, param == 0x02) {
+    if param == 0x02 {
         return Row::OnObject(Action::Count);
     }
+    if param == 0x04 {
+        return Row::OnObject(Action::Append);
+    }
+    if param == 0x05 {
+        return Row::OnObject(Action::Acknowledge);
+    }
+    Row::Unknown
+}
+
+// The row of any other Cmd and its Param.
+fn session_row(cmd: u8, param: u8) -> Row
+    ensures { λ r. ⌜ r ≡ session-row cmd param ⌝ }
+{
     if primitives::and(cmd == 0x70, param == 0x00) {
         return Row::OpenApplication;
     }
@@ -68,6 +89,18 @@ fn row_of(cmd: u8, param: u8) -> Row
         return Row::CloseApplication;
     }
     Row::Unknown
+}
+
+fn row_of(cmd: u8, param: u8) -> Row
+    ensures { λ r. ⌜ r ≡ row-in command-table cmd param ⌝ }
+{
+    if cmd == 0x01 {
+        return get_row(param);
+    }
+    if cmd == 0x02 {
+        return set_row(param);
+    }
+    session_row(cmd, param)
 }
 
 pub fn row_of_command(command: &[u8]) -> Row
@@ -117,6 +150,20 @@ pub fn sent_metadata(command: &[u8]) -> &[u8]
     ensures { λ r. ⌜ now r ≡ sent-metadata (now (command .entry)) ⌝ }
 {
     &command[6..]
+}
+
+pub fn sent_body(command: &[u8]) -> &[u8]
+    requires { ⌜ 6 ≤ length (now command) ⌝ }
+    ensures { λ r. ⌜ now r ≡ sent-body (now (command .entry)) ⌝ }
+{
+    &command[6..]
+}
+
+pub fn sent_number(command: &[u8]) -> u32
+    requires { ⌜ 10 ≤ length (now command) ⌝ }
+    ensures { λ r. ⌜ r ≡ sent-number (now (command .entry)) ⌝ }
+{
+    primitives::big_endian_4_at(command, 6)
 }
 
 // The steps 2 to 8, one function each.
@@ -220,6 +267,11 @@ fn action_sizes(asked: Action) -> Sizes
             most: 0xFFFF,
         },
         Action::Count => Sizes { least: 5, most: 5 },
+        Action::Append => Sizes {
+            least: 3,
+            most: 202,
+        },
+        Action::Acknowledge => Sizes { least: 6, most: 6 },
     }
 }
 

@@ -13,7 +13,7 @@ use Rattle.rules.specs.declared.Session.{Session}
 use Rattle.rules.specs.declared.Kind.the-variants.{Counter}
 use Rattle.rules.specs.declared.Direction.the-variants.{Up}
 use Rattle.rules.specs.declared.Action.{Action}
-use Rattle.rules.specs.declared.Action.the-variants.{GetData, GetMetadata, Write, EraseAndWrite, SetMetadata, Count}
+use Rattle.rules.specs.declared.Action.the-variants.{GetData, GetMetadata, Write, EraseAndWrite, SetMetadata, Count, Append, Acknowledge}
 use Rattle.rules.specs.declared.Row.the-variants.{OnObject}
 use Rattle.rules.specs.declared.Verdict.the-variants.{Accepted}
 use Rattle.rules.specs.Basic.{among, or-else}
@@ -50,6 +50,8 @@ operation-keeps EraseAndWrite c o see new h e =
     (λ t e. absurd (Option·none-ne-some new e)) (λ t e. ap object-counters (sym (Option·some-injective _ _ e))) e
 operation-keeps SetMetadata c o see new h e = absurd (false≢true (sym h))
 operation-keeps Count c o see new h e = ap object-counters (sym (Option·some-injective _ _ e))
+operation-keeps Append c o see new h e = ap object-counters (sym (Option·some-injective _ _ e))
+operation-keeps Acknowledge c o see new h e = ap object-counters (sym (Option·some-injective _ _ e))
 
 step-keeps : (ns : List ℕ) (o : Object) → object-counters (used-up ns o) ≡ object-counters o
 unfolding used-up one-up object-counters with-content
@@ -73,7 +75,7 @@ module _ (t : Turn) (plain : Plain t) (no-metadata : sets-metadata (row (t .comm
   object-keeps os x ok v k o found =
       let see = seen os x in
       let r = ruling (row c) c see in
-      let (e, late) = verdict-passed true c room see v in
+      let e = verdict-passed true c room see v .0 in
       let a = aimed t plain true x e in
       let own : (m : Option Object) → r .does .stores ≡ m → object-counters (own-change m o) ≡ object-counters o =
       λ m. elim m as (λ m. r .does .stores ≡ m → object-counters (own-change m o) ≡ object-counters o) [
@@ -81,7 +83,7 @@ module _ (t : Turn) (plain : Plain t) (no-metadata : sets-metadata (row (t .comm
         | some new ↦ λ st.
             if-by (λ p. object-counters p ≡ object-counters o) (eqb (o .number) (new .number)) new o
             (λ y.
-            let f = ruling-fits (row c) c os x room new ok late st in
+            let f = ruling-fits c os x room ok v new st in
             let here : k ≡ n = sym (found-stands k os o found .number) ∙ eqb-true (o .number) (new .number) y ∙ f .fits .number ∙ f .stands .number in
             let there : find n os ≡ some o = ap (λ j. find j os) (sym here) ∙ found in
             let by : ruling-on (a .gets-or-sets .action) c (find n os) see .does .stores ≡ some new = rw (ruling-at t plain true x e see) at st in
@@ -99,7 +101,7 @@ module _ (t : Turn) (plain : Plain t) (no-metadata : sets-metadata (row (t .comm
     accepted-keeps os x u v on =
         let r = ruling (row c) c (seen os x) in
         let ok = pack-unpack (k .store) os u .1 in
-        let kept = ruling-kept (row c) c os x room ok (verdict-passed true c room (seen os x) v .1) in
+        let kept = ruling-kept c os x room ok v in
         let objects : on .objects ≡ map (object-after r) os =
         Option·some-injective _ _ (sym (on .store-sound) ∙ unpack-pack _ (kept .allowed)) ∙ objects-after-each r os in
         let (o, found, after) = found-changed (object-after r) (after-number r) (on .number) os (on .object) (rw objects at (on .there)) in

@@ -1,45 +1,47 @@
 -- Demand 2 of one command: a write to a stored object makes its change exactly when the command is well formed, the stored change
--- condition holds and the content is allowed and fits; a data read shows exactly the stored bytes, only when the read condition holds.
+-- condition holds, the content is allowed and fits and it is no plain write to a queue; a data read shows exactly the stored bytes, only when the read condition holds.
 -- Beside that, the counters that the condition uses up step, and nothing else.
-use Prim.Native.Nat.{ℕ, _≤_, _<_}
+use Prim.Native.Nat.{ℕ, _+_, _≤_, _<_}
 use mathlib.Core.Bool.{Bool, true, false, not, _&&_, false≢true}
 use mathlib.Core.List.{List, []}
 use mathlib.Core.Option.{some}
 use mathlib.Core.Path.{_≡_, refl, sym, ap, subst, _∙_}
 use native.Mathlib.Omega.{arith}
-use borrow.Author.Tests.{leb-true, le-leb, not-true, not-false}
-use lib.Dec.{eqb}
+use borrow.Author.Tests.{leb-true, le-leb, leb-false, le-ltb, lt-ltb, not-true, not-false}
+use lib.Dec.{eqb, leb, ltb}
 use lib.ListN.{length, getD}
 use lib.Seq.{ext-getD}
 use Rattle.rules.specs.declared.Session.{Session}
 use Rattle.rules.specs.declared.Refusal.{Refusal}
-use Rattle.rules.specs.declared.Refusal.the-variants.{InvalidParam, InvalidData, BoundaryExceeded}
-use Rattle.rules.specs.declared.Kind.the-variants.{LifeCycle, Counter}
+use Rattle.rules.specs.declared.Refusal.the-variants.{InvalidParam, InvalidData, BoundaryExceeded, InsufficientBuffer}
+use Rattle.rules.specs.declared.Kind.the-variants.{LifeCycle, Counter, Queue}
 use Rattle.rules.specs.declared.Direction.the-variants.{Up}
 use Rattle.rules.specs.declared.Action.{Action}
-use Rattle.rules.specs.declared.Action.the-variants.{GetData, GetMetadata, Write, EraseAndWrite, SetMetadata, Count}
+use Rattle.rules.specs.declared.Action.the-variants.{GetData, GetMetadata, Write, EraseAndWrite, SetMetadata, Count, Append, Acknowledge}
 use Rattle.rules.specs.declared.Row.the-variants.{OnObject}
 use Rattle.rules.specs.declared.Verdict.{Verdict}
 use Rattle.rules.specs.declared.Verdict.the-variants.{Accepted}
 use Rattle.rules.specs.Basic.{if_then_else_, among}
-use Rattle.rules.specs.Command.{row, object-number, offset, sent-data}
+use Rattle.rules.specs.Command.{row, object-number, offset, sent-data, sent-body, sent-number}
 use Rattle.rules.specs.Response.{done-response, put-in-front}
-use Rattle.rules.specs.Expression.{Expression}
+use Rattle.rules.specs.Expression.{Expression, never}
 use Rattle.rules.specs.Object.{Object, used, is, of-session, is-counter, direction, with-content}
 use Rattle.rules.specs.Counter.{exhausted}
+use Rattle.rules.specs.Queue.{fare-head, queue-in, present-in}
 use Rattle.rules.specs.Layout.{objects-allowed, unpack, pack, find, replaced}
 use Rattle.rules.specs.Metadata.{with-fields}
 use Rattle.rules.specs.Chain.{_refused_or_}
-use Rattle.rules.specs.Access.{Seen, seen, named, Grant, grant, all-used-up, asked, access}
+use Rattle.rules.specs.Access.{Seen, seen, named, Grant, grant, holds, all-used-up, asked, access, granted}
 use Rattle.rules.specs.Operation.{shown, value-allowed, operation}
 use Rattle.rules.specs.Refusals.{unsound, unusable, ruling-on, ruling, verdict}
 use Rattle.rules.specs.Step.{After, replacing, objects-after, performed, answered, judged, flushed, step}
-use Rattle.demands.specs.Demand.{is-done, Ready, well-formed, writes, content-allowed, changed, uses, UsedUp, MayWrite, after-write, WritesExactly}
+use Rattle.demands.specs.Demand.{is-done, Ready, well-formed, writes, content-allowed, changed, excepted, uses, UsedUp, MayWrite, after-write, WritesExactly}
 use Rattle.demands.specs.Demand.{MayRead, Shows, bytes-shown, after-read, ReadsExactly}
 use Rattle.laws.proofs.Tests.{and-left, and-right, or-parts, by-test}
 use Rattle.laws.proofs.Inverse.{unpack-pack, pack-unpack}
 use Rattle.laws.proofs.Verdicts.{passed, EarlyPassed, early-passed, early-accepts, LatePassed, late-passed, late-accepts, NinePassed, nine-passed, verdict-passed, verdict-accepts}
 use Rattle.laws.proofs.Rows.{on-object}
+use Rattle.laws.proofs.Fitting.{not-never}
 use Rattle.laws.proofs.Named.{named-in-store, FoundThere, found-there}
 use Rattle.laws.proofs.Grants.{flush-keeps, flush-grant}
 use Rattle.laws.proofs.UsedUp.{found-replaced, found-used-up, found-not-used, none-used-up, grant-counter}
@@ -53,7 +55,8 @@ use Rattle.laws.proofs.Puts.{shown-length, shown-there}
 -- a write: which condition it asks, what content it takes and how it refuses other content, what it leaves
 record Writing (a : Action) (c : List ℕ) (o : Object) (see : Seen) : Type 0 where
   refusal : Refusal
-  asks : access a o see ≡ grant see (o .lcso) (o .change)
+  asks : excepted a o ≡ false → access a o see ≡ grant see (o .lcso) (o .change)
+  refuses-excepted : granted a o see ≡ true → excepted a o ≡ false
   judges : operation a c o see .verdict ≡ (not (content-allowed a c o) refused refusal or Accepted)
   silent : operation a c o see .answer ≡ []
   puts : operation a c o see .stores ≡ some (changed a c o)
@@ -68,24 +71,78 @@ count-refusals true true false = refl
 count-refusals true false at-end = refl
 count-refusals false front at-end = refl
 
+-- above it: not at most it
+above : (m n : ℕ) → ltb m n ≡ not (leb n m)
+above m n = by-test (leb n m) (λ t. rw (t, le-ltb m n (leb-true n m t))) (λ t. rw (t, lt-ltb m n (leb-false n m t)))
+
+-- those of an append: 03 where the object is no queue, else 08 where the fare does not fit, else 0D
+append-refusals : (queue last : Bool) (most needs : ℕ) →
+    (not queue refused InvalidParam or ltb most needs refused BoundaryExceeded or last refused InsufficientBuffer or Accepted) ≡
+    (not (queue && leb needs most && not last) refused (if queue then if leb needs most then InsufficientBuffer else BoundaryExceeded else InvalidParam)
+    or Accepted)
+unfolding _refused_or_
+append-refusals queue last most needs = rw (above most needs) (by queue (leb needs most) last)
+  where
+    by : (queue fits last : Bool) →
+        (not queue refused InvalidParam or not fits refused BoundaryExceeded or last refused InsufficientBuffer or Accepted) ≡
+        (not (queue && fits && not last) refused (if queue then if fits then InsufficientBuffer else BoundaryExceeded else InvalidParam) or Accepted)
+    by true true true = refl
+    by true true false = refl
+    by true false last = refl
+    by false fits last = refl
+
+-- those of an acknowledgement: 03 where the object is no queue, else 05
+acknowledge-refusals : (queue present : Bool) →
+    (not queue refused InvalidParam or not present refused InvalidData or Accepted) ≡
+    (not (queue && present) refused (if queue then InvalidData else InvalidParam) or Accepted)
+unfolding _refused_or_
+acknowledge-refusals true true = refl
+acknowledge-refusals true false = refl
+acknowledge-refusals false present = refl
+
 module _ (c : List ℕ) (o : Object) (see : Seen) (kind : of-session (o .kind) ≡ false) where
   -- any value may be written
   any-value : (state : ℕ) → value-allowed o state ≡ true
   unfolding value-allowed of-session
   any-value state = rw (or-parts (is LifeCycle (o .kind)) _ kind .0)
 
+  -- a plain write to a queue is never granted
+  queue-excepted : holds see (o .lcso) (if is Queue (o .kind) then never else o .change) ≡ true → is Queue (o .kind) ≡ false
+  queue-excepted = not-never (is Queue (o .kind)) see (o .lcso) (o .change)
+
   action-writes : (a : Action) → writes a ≡ true → Writing a c o see
-  unfolding operation content-allowed changed writes access asked _refused_or_
+  unfolding operation content-allowed changed excepted writes access asked _refused_or_
   action-writes GetData w = absurd (false≢true w)
   action-writes GetMetadata w = absurd (false≢true w)
   action-writes Write w =
-      record { refusal = BoundaryExceeded; asks = refl; judges = rw (any-value (getD (sent-data c) 0 0)); silent = refl; puts = rw kind }
+      record {
+        refusal = BoundaryExceeded;
+        asks = λ x. rw x;
+        refuses-excepted = queue-excepted;
+        judges = rw (any-value (getD (sent-data c) 0 0));
+        silent = refl;
+        puts = rw kind;
+      }
   action-writes EraseAndWrite w =
-      record { refusal = BoundaryExceeded; asks = refl; judges = rw (any-value (getD (sent-data c) 0 0)); silent = refl; puts = rw kind }
-  action-writes SetMetadata w = record { refusal = InvalidData; asks = rw kind; judges = refl; silent = refl; puts = refl }
+      record {
+        refusal = BoundaryExceeded;
+        asks = λ x. rw x;
+        refuses-excepted = queue-excepted;
+        judges = rw (any-value (getD (sent-data c) 0 0));
+        silent = refl;
+        puts = rw kind;
+      }
+  action-writes SetMetadata w =
+      record { refusal = InvalidData; asks = λ x. rw kind; refuses-excepted = λ g. refl; judges = refl; silent = refl; puts = refl }
   action-writes Count w =
       let judged = count-refusals (is-counter (o .kind)) (eqb (offset c) 0) (exhausted (direction (o .kind)) (o .content)) in
-      record { refusal = _; asks = refl; judges = judged; silent = refl; puts = refl }
+      record { refusal = _; asks = λ x. refl; refuses-excepted = λ g. refl; judges = judged; silent = refl; puts = refl }
+  action-writes Append w =
+      let judged = append-refusals (is Queue (o .kind)) (eqb (queue-in (o .content) .next) 0xFFFFFFFF) (o .maximum) (used o + fare-head + length (sent-body c)) in
+      record { refusal = _; asks = λ x. refl; refuses-excepted = λ g. refl; judges = judged; silent = refl; puts = refl }
+  action-writes Acknowledge w =
+      let judged = acknowledge-refusals (is Queue (o .kind)) (present-in (queue-in (o .content) .fares) (sent-number c)) in
+      record { refusal = _; asks = λ x. refl; refuses-excepted = λ g. refl; judges = judged; silent = refl; puts = refl }
 
 -- a write keeps number and kind
 changed-keeps : (a : Action) (c : List ℕ) (o : Object) → (changed a c o .number ≡ o .number) × (changed a c o .kind ≡ o .kind)
@@ -96,6 +153,8 @@ changed-keeps Write c o = (refl, refl)
 changed-keeps EraseAndWrite c o = (refl, refl)
 changed-keeps SetMetadata c o = (refl, refl)
 changed-keeps Count c o = (refl, refl)
+changed-keeps Append c o = (refl, refl)
+changed-keeps Acknowledge c o = (refl, refl)
 
 -- counters used up ---------------------------------------------------------------------------------------------------------
 
@@ -193,8 +252,7 @@ module _ (c room store : List ℕ) (s : Session) (os : List Object) where
     objects-left : verdict-now ≡ Accepted → unpack (step c room store s .store) ≡ some (objects-after (ruling-on a c (some o) see) os)
     unfolding performed
     objects-left e =
-        let late = verdict-passed true c (length room) see e .1 in
-        let k = rw ruling-is at (ruling-kept (row c) c os now (length room) (allowed-objects ready) late) in
+        let k = rw ruling-is at (ruling-kept c os now (length room) (allowed-objects ready) e) in
         rw (performed-by e) (unpack-pack (objects-after (ruling-on a c (some o) see) os) (k .allowed))
 
   -- a stored object is the one that is named
@@ -213,42 +271,43 @@ module _ (c room store : List ℕ) (s : Session) (os : List Object) where
     asks = action-writes c o see (there o ready finds .storable .not-of-session) a w
 
     -- the flush changes nothing in what is granted
-    grant-is : access a o see ≡ grant (seen os s) (o .lcso) (o .change)
-    grant-is = asks .asks ∙ flush-grant c s os (o .lcso) (o .change)
+    grant-is : excepted a o ≡ false → access a o see ≡ grant (seen os s) (o .lcso) (o .change)
+    grant-is x = asks .asks x ∙ flush-grant c s os (o .lcso) (o .change)
 
     may-accepted : MayWrite a c (seen os s) o → verdict-now ≡ Accepted
     unfolding _refused_or_
     may-accepted m =
-        let granted = ap (λ (g : Grant). g .granted) grant-is ∙ m .change-condition-holds in
+        let granted = ap (λ (g : Grant). g .granted) (grant-is (m .not-excepted)) ∙ m .change-condition-holds in
         accepted-by o ready a acts (stored-named o ready finds) (m .command-well-formed)
         (search (granted, asks .judges, asks .silent, m .content-allowed-and-fits, ready, arith))
 
-    objects-written : objects-after (ruling-on a c (some o) see) os ≡ after-write a c (seen os s) o os
+    objects-written : excepted a o ≡ false → objects-after (ruling-on a c (some o) see) os ≡ after-write a c (seen os s) o os
     unfolding objects-after ruling-on replacing
-    objects-written = λ i. all-used-up (grant-is i .counters) (replacing (asks .puts i) os)
+    objects-written x = λ i. all-used-up (grant-is x i .counters) (replacing (asks .puts i) os)
 
-    written : verdict-now ≡ Accepted →
+    written : excepted a o ≡ false → verdict-now ≡ Accepted →
         step c room store s ≡
         record { outcome = 0; room = put-in-front (done-response []) room; store = pack (after-write a c (seen os s) o os); session = now }
     unfolding performed ruling-on seen
-    written e =
+    written x e =
         performed-by o ready a acts (stored-named o ready finds) e ∙
-        rw (objects-written, asks .silent, session-left a c o see (there o ready finds .facts .outside-session))
+        rw (objects-written x, asks .silent, session-left a c o see (there o ready finds .facts .outside-session))
 
     pub write-exactly-when : WritesExactly a c room store s os o (step c room store s)
     write-exactly-when =
         record {
-          when = λ m. written (may-accepted m);
-          objects-after = λ m. objects-left o ready a acts (stored-named o ready finds) (may-accepted m) ∙ ap some objects-written;
+          when = λ m. written (m .not-excepted) (may-accepted m);
+          objects-after = λ m. objects-left o ready a acts (stored-named o ready finds) (may-accepted m) ∙ ap some (objects-written (m .not-excepted));
           uses-up = λ m.
               let (number, kind) = changed-keeps a c o in
               let here = ap (λ n. find n os) (number ∙ there o ready finds .stands .number) ∙ finds in
               grant-used-up-after os s (o .lcso) (o .change) o (changed a c o) here kind;
           only-when = λ h.
               let (formed, l) = accepted-passed o ready a acts (stored-named o ready finds) (done-accepted ready h) in
-              let holding = sym (ap (λ (g : Grant). g .granted) grant-is) ∙ l .granted in
+              let allowed = asks .refuses-excepted (l .granted) in
+              let holding = sym (ap (λ (g : Grant). g .granted) (grant-is allowed)) ∙ l .granted in
               let fits = not-false _ (passed _ _ _ (sym (asks .judges) ∙ l .own) .0) in
-              record { command-well-formed = formed; change-condition-holds = holding; content-allowed-and-fits = fits };
+              record { command-well-formed = formed; change-condition-holds = holding; content-allowed-and-fits = fits; not-excepted = allowed };
           else-kept = not-done-kept c room store s;
         }
 

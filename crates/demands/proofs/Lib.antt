@@ -9,6 +9,8 @@ pub mod Follows
 pub mod Demand3
 pub mod Conditions
 pub mod Resent
+pub mod QueueSteps
+pub mod Queues
 pub mod Metadata
 pub mod SendBack
 pub mod Printed

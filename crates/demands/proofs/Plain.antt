@@ -13,14 +13,15 @@ use lib.ListN.{length}
 use Rattle.mixing.specs.Cells.{Put, puts}
 use Rattle.mixing.proofs.Frame.{Local, AllAt}
 use Rattle.rules.specs.declared.Session.{Session}
+use Rattle.rules.specs.declared.Kind.the-variants.{Queue}
 use Rattle.rules.specs.declared.Action.{Action}
-use Rattle.rules.specs.declared.Action.the-variants.{GetData, GetMetadata, Write, EraseAndWrite, SetMetadata, Count}
+use Rattle.rules.specs.declared.Action.the-variants.{GetData, GetMetadata, Write, EraseAndWrite, SetMetadata, Count, Append, Acknowledge}
 use Rattle.rules.specs.declared.Verdict.{Verdict}
 use Rattle.rules.specs.declared.Verdict.the-variants.{Refused, Accepted}
-use Rattle.rules.specs.Basic.{among}
+use Rattle.rules.specs.Basic.{if_then_else_, among}
 use Rattle.rules.specs.Command.{row, object-number, object-of}
 use Rattle.rules.specs.Expression.{Expression, always, never}
-use Rattle.rules.specs.Object.{Object, in-session, of-session}
+use Rattle.rules.specs.Object.{Object, in-session, of-session, is}
 use Rattle.rules.specs.Layout.{objects-allowed, pack, unpack, find}
 use Rattle.rules.specs.Chain.{_and-then_}
 use Rattle.rules.specs.Access.{Seen, seen, expression-counters, asked, access}
@@ -59,14 +60,20 @@ module _ (o : Object) (k : ℕ) where
   read-named : Named (o .read)
   read-named h = change-or-read (among-right (expression-counters (o .change)) (expression-counters (o .read)) k h)
 
+  never-or-change : (t : Bool) → Named (if t then never else o .change)
+  unfolding expression-counters
+  never-or-change t = if-by Named t never (o .change) (λ e. nothing-named never refl) (λ e. change-named)
+
   asked-named : (a : Action) → Named (asked a o)
   unfolding asked expression-counters
   asked-named GetData = read-named
   asked-named GetMetadata = if-by Named (of-session (o .kind)) never always (λ t. nothing-named never refl) (λ t. nothing-named always refl)
-  asked-named Write = change-named
-  asked-named EraseAndWrite = change-named
-  asked-named SetMetadata = if-by Named (of-session (o .kind)) never (o .change) (λ t. nothing-named never refl) (λ t. change-named)
+  asked-named Write = never-or-change (is Queue (o .kind))
+  asked-named EraseAndWrite = never-or-change (is Queue (o .kind))
+  asked-named SetMetadata = never-or-change (of-session (o .kind))
   asked-named Count = change-named
+  asked-named Append = change-named
+  asked-named Acknowledge = change-named
 
 -- the counters that a ruling uses up are named there
 ruling-uses : (a : Action) (c : List ℕ) (m : Option Object) (see : Seen) (k : ℕ) → among (ruling-on a c m see .counters) k ≡ true →
@@ -173,7 +180,7 @@ module _ (t : Turn) (plain : Plain t) where
   stored-is os x ok v =
       let r = ruling (row c) c (seen os x) in
       let number : (new : Object) → r .does .stores ≡ some new → new .number ≡ n =
-      λ new st. let f = ruling-fits (row c) c os x room new ok (verdict-passed true c room (seen os x) v .1) st in f .fits .number ∙ f .stands .number in
+      λ new st. let f = ruling-fits c os x room ok v new st in f .fits .number ∙ f .stands .number in
       all-changed (object-after r) (after-number r) (n ∷ r .counters) (after-others n r number) os (all-allowed-facts os ok .rises) ∙
       sym (objects-after-each r os)
 
@@ -204,5 +211,5 @@ module _ (t : Turn) (plain : Plain t) where
             let ok = pack-unpack b os u .1 in
             unfold seen in
             stores-by (λ ps. unpack (pack (puts put ps os)) ≡ some (puts put ps os)) (seen os x) (unpack-pack os ok)
-            (λ v. rw (stored-is os x ok v) (unpack-pack _ (ruling-kept (row c) c os x room ok (verdict-passed true c room (seen os x) v .1) .allowed)));
+            (λ v. rw (stored-is os x ok v) (unpack-pack _ (ruling-kept c os x room ok v .allowed)));
       }

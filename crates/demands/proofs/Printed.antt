@@ -10,7 +10,7 @@ use lib.Dec.{ltb}
 use lib.ListN.{length, take, drop, length-append, length-take, length-drop, length-replicate}
 use Rattle.rules.specs.declared.Session.{Session}
 use Rattle.rules.specs.declared.Action.{Action}
-use Rattle.rules.specs.declared.Action.the-variants.{GetData, GetMetadata, Write, EraseAndWrite, SetMetadata, Count}
+use Rattle.rules.specs.declared.Action.the-variants.{GetData, GetMetadata, Write, EraseAndWrite, SetMetadata, Count, Append, Acknowledge}
 use Rattle.rules.specs.declared.Row.{Row}
 use Rattle.rules.specs.declared.Row.the-variants.{OnObject, OpenApplication, CloseApplication, Unknown}
 use Rattle.rules.specs.declared.Verdict.the-variants.{Accepted}
@@ -66,7 +66,7 @@ get-size : (c : List ℕ) → row c ≡ OnObject GetData → line-of c .sizes .l
 unfolding row line-of command-table table-line no-line
 get-size c =
     every-line (λ l. l .row ≡ OnObject GetData → l .sizes .least ≡ 6) command-table (cmd c) (param c)
-    ((λ e. cc), ((λ e. cc), ((λ e. cc), ((λ e. cc), ((λ e. cc), ((λ e. cc), ((λ e. cc), ((λ e. cc), tt)))))))) (λ e. cc)
+    ((λ e. cc), ((λ e. cc), ((λ e. cc), ((λ e. cc), ((λ e. cc), ((λ e. cc), ((λ e. cc), ((λ e. cc), ((λ e. cc), ((λ e. cc), tt)))))))))) (λ e. cc)
 
 -- what is no get of data answers no data, or the metadata of a stored object
 operation-short : (a : Action) (c : List ℕ) (o : Object) (see : Seen) → (a ≡ GetData → ⊥) → granted a o see ≡ true →
@@ -78,6 +78,8 @@ operation-short Write c o see other g known = omega arith
 operation-short EraseAndWrite c o see other g known = omega arith
 operation-short SetMetadata c o see other g known = omega arith
 operation-short Count c o see other g known = omega arith
+operation-short Append c o see other g known = omega arith
+operation-short Acknowledge c o see other g known = omega arith
 
 -- an accepted command of less than ten bytes is no get of data
 answer-short : (c store : List ℕ) (room : ℕ) (m : Option (List Object)) (s : Session) → length c < 10 → unpack store ≡ m →

@@ -11,7 +11,7 @@ use Rattle.rules.specs.declared.Session.{Session}
 use Rattle.rules.specs.declared.Kind.the-variants.{LifeCycle, Status}
 use Rattle.rules.specs.declared.Refusal.{Refusal}
 use Rattle.rules.specs.declared.Action.{Action}
-use Rattle.rules.specs.declared.Action.the-variants.{GetData, GetMetadata, Write, EraseAndWrite, SetMetadata, Count}
+use Rattle.rules.specs.declared.Action.the-variants.{GetData, GetMetadata, Write, EraseAndWrite, SetMetadata, Count, Append, Acknowledge}
 use Rattle.rules.specs.declared.Row.{Row}
 use Rattle.rules.specs.declared.Row.the-variants.{OnObject, OpenApplication, CloseApplication, Unknown}
 use Rattle.rules.specs.declared.Verdict.{Verdict}
@@ -47,6 +47,8 @@ module _ (c : List ℕ) (see : Seen) (room n m : ℕ) where
   error-same EraseAndWrite = refl
   error-same SetMetadata = refl
   error-same Count = refl
+  error-same Append = refl
+  error-same Acknowledge = refl
 
 module _ (c : List ℕ) (room : ℕ) (n : ℕ) (s : Session) (os : List Object) where
   abbrev after : Seen

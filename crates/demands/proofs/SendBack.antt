@@ -20,7 +20,7 @@ use Rattle.rules.specs.Metadata.{field, fields-bytes, led-by-20, with-fields}
 use Rattle.rules.specs.Access.{seen, expression-counters, holds, all-used-up}
 use Rattle.rules.specs.Refusals.{ill-sized, wrong-length}
 use Rattle.rules.specs.Step.{flushed, step}
-use Rattle.demands.specs.Demand.{Ready, MayWrite, WritesExactly, well-formed, writes, content-allowed, changed, uses, UsedUp, after-write, sent-back}
+use Rattle.demands.specs.Demand.{Ready, MayWrite, WritesExactly, well-formed, writes, content-allowed, changed, excepted, uses, UsedUp, after-write, sent-back}
 use Rattle.laws.proofs.Expressions.{expression-length}
 use Rattle.laws.proofs.Facts.{Allowed}
 use Rattle.laws.proofs.Inverse.{two-bytes, pack-unpack}
@@ -69,12 +69,13 @@ module _ (room store : List ℕ) (s : Session) (os : List Object) (n : ℕ) (o :
   there = found-there n os o (pack-unpack store os (ready .store-sound) .1) finds
 
   may : MayWrite SetMetadata (sent-back o) (seen os s) o
-  unfolding own-content content-allowed sent-metadata sent-back own-fields
+  unfolding own-content content-allowed excepted sent-metadata sent-back own-fields
   may =
       record {
         command-well-formed = formed o (there .facts);
         change-condition-holds = holding;
         content-allowed-and-fits = own-allowed o (there .object-ok);
+        not-excepted = refl;
       }
 
   writes-back : WritesExactly SetMetadata (sent-back o) room store s os o (step (sent-back o) room store s)

@@ -1,40 +1,43 @@
 -- Each record of assumptions is met, by the factory store, an opened session and commands of the bench sheet, and what the demands conclude of
 -- them. The records are made by `search`: one that asks too much is refused for what it asks.
 use Prim.Native.Nat.{ℕ, _/_, _%_}
-use mathlib.Core.Bool.{Bool, true, false, not, false≢true}
+use mathlib.Core.Bool.{Bool, true, false, not, _||_, false≢true}
 use mathlib.Core.List.{List, [], _∷_, _++_, map}
 use mathlib.Core.Logic.{_⊎_, inl, inr}
 use mathlib.Core.Option.{some, Option·some-injective}
 use mathlib.Core.Path.{_≡_, refl, sym, ap, _∙_}
 use native.Mathlib.Omega.{arith}
-use borrow.Author.Tests.{eqb-true, eq-eqb, not-true}
-use lib.Dec.{eqb}
+use borrow.Author.Tests.{eqb-true, eq-eqb, ltb-true, not-true}
+use lib.Dec.{eqb, ltb}
 use lib.ListN.{length, replicate}
-use Rattle.mixing.specs.Runs.{Mix, both-used-up, first, second, All, Mixed}
+use Rattle.mixing.specs.Runs.{answers, end, Mix, both-used-up, first, second, All, Mixed}
 use Rattle.rules.specs.declared.Session.{Session}
-use Rattle.rules.specs.declared.Action.the-variants.{Write, EraseAndWrite, SetMetadata, Count}
-use Rattle.rules.specs.declared.Kind.the-variants.{Data, Counter}
+use Rattle.rules.specs.declared.Action.the-variants.{Write, EraseAndWrite, SetMetadata, Count, Append, Acknowledge}
+use Rattle.rules.specs.declared.Kind.the-variants.{Data, Counter, Queue}
 use Rattle.rules.specs.declared.Direction.the-variants.{Up}
-use Rattle.rules.specs.Basic.{all, among, same, rising-from, rising, zeros, big-endian-4, big-endian-4-at}
+use Rattle.rules.specs.Basic.{all, among, same, rising-from, rising, zeros, big-endian-4, big-endian-4-at, little-endian-4, little-endian-4-at, little-endian-at}
 use Rattle.rules.specs.Hex.{ascii, digits, pairs, hex}
-use Rattle.rules.specs.Command.{asks-flush, cmd, param, in-length, in-data, size-right, table-line, command-table, line-in, line-of, row, object-number, offset, asked-length, sent-data, step-byte, sent-metadata, object-of}
+use Rattle.rules.specs.Command.{asks-flush, cmd, param, in-length, in-data, size-right, table-line, command-table, line-in, line-of, row, object-number, offset, asked-length, sent-data, step-byte, sent-metadata, sent-body, sent-number, object-of}
 use Rattle.rules.specs.Response.{done-response, put-in-front}
 use Rattle.rules.specs.Expression.{is-state, may-become, Condition, just, _and_, only, Expression, always, never, when, expression-bytes, groups-bytes, group-bytes, condition-bytes}
 use Rattle.rules.specs.Expression.{names-counter, counter-number, condition-allowed, group-allowed, groups-allowed, group-size, conditions, groups, expression-allowed-with}
 use Rattle.rules.specs.Object.{Object, kind-number, is, is-counter, direction, data-allowed, in-session, object-allowed-with, all-allowed-with, with-content}
 use Rattle.rules.specs.Layout.{size-with, objects-allowed-with, pack, unpack, find, replaced}
 use Rattle.rules.specs.Counter.{moved, at-or-past, counted, value, threshold, exhausted, after-count}
+use Rattle.rules.specs.Queue.{fare, FareQueue, empty-queue, body-allowed, bodies-allowed, numbered-below, queue-allowed, fare-bytes, fares-bytes, queue-bytes, read-fare, read-fares, read-queue, queue, appended, present-in, up-to, past, acknowledged}
 use Rattle.rules.specs.Factory.{entry, table, before-operational, made, factory-objects, factory-store, fresh-session}
 use Rattle.rules.specs.Session.{with-opened, with-error}
 use Rattle.rules.specs.Metadata.{field, fields-bytes, object-fields, led-by-20, read-fields, sent-fields, field-allowed, fields-allowed, metadata-allowed}
 use Rattle.rules.specs.Access.{seen, present, state-holds, usable, condition-holds, group-holds, condition-counters, group-counters, groups-counters, expression-counters}
-use Rattle.rules.specs.Access.{groups-grant, grant, one-up, used-up, all-used-up}
+use Rattle.rules.specs.Access.{groups-grant, grant, holds, one-up, used-up, all-used-up}
 use Rattle.rules.specs.Operation.{shown, put-at, write-fits}
 use Rattle.rules.specs.Refusals.{ill-sized, wrong-length}
 use Rattle.rules.specs.Step.{flushed, step}
-use Rattle.rules.specs.Run.{Turn, Kept, reply, left, reads-or-writes}
-use Rattle.demands.specs.Demand.{is-done, Ready, well-formed, writes, content-allowed, changed, uses, UsedUp, MayWrite, WritesExactly, MayRead, ReadsExactly, session-byte, asks-byte, byte-shown, MayReadByte, after-byte, Shown, without-sizes, sent-back}
+use Rattle.rules.specs.Run.{Turn, Reply, Kept, reply, left, run, reads-or-writes}
+use Rattle.demands.specs.Demand.{is-done, Ready, well-formed, writes, content-allowed, changed, excepted, uses, UsedUp, MayWrite, WritesExactly, MayRead, ReadsExactly, session-byte, asks-byte, byte-shown, MayReadByte, after-byte, Shown, without-sizes, sent-back}
 use Rattle.demands.specs.Demand.{Plain, Names, object-counters, NamesCounter, sets-metadata, TwoLists}
+use Rattle.demands.specs.Queues.{queue-of, stored-queue, present-fares, appends, acknowledges, answered-00, Account, opening, after-append, after-acknowledge, noted, account, QueueKept, Among, Acknowledged, NeverLost}
+use Rattle.rules.proofs.Bench as bench
 use Rattle.laws.proofs.Tests.{by-test, and-left, and-right}
 use Rattle.laws.proofs.Factory.{factory-sound}
 use Rattle.laws.proofs.Inverse.{unpack-pack}
@@ -44,6 +47,7 @@ use Rattle.demands.proofs.Shown.{read-only-when, byte-read-when}
 use Rattle.demands.proofs.SendBack.{send-back}
 use Rattle.demands.proofs.Demand3.{lists-mix}
 use Rattle.demands.proofs.Conditions.{during-before}
+use Rattle.demands.proofs.Queues.{queue-kept, never-lost}
 
 -- the application opened on the factory store, with a room of 64 bytes EE
 unfoldable pub opened : Session
@@ -58,7 +62,7 @@ F1D0 = made (entry 0xF1D0 140)
 
 -- `unfolding computed` opens what a record of assumptions speaks of
 computed : List Bool
-unfolding opened room F1D0 all among same rising-from rising ascii digits pairs hex asks-flush cmd param in-length in-data size-right table-line command-table line-in line-of row object-number offset asked-length sent-data step-byte sent-metadata is-state may-become seen present names-counter counter-number state-holds usable condition-holds group-holds condition-counters group-counters groups-grant grant one-up used-up all-used-up in-session find entry table before-operational made factory-objects fresh-session with-opened with-error field fields-bytes led-by-20 read-fields sent-fields field-allowed fields-allowed metadata-allowed with-content shown put-at write-fits kind-number is is-counter direction big-endian-4 big-endian-4-at moved at-or-past counted value threshold exhausted after-count ill-sized wrong-length flushed well-formed writes content-allowed changed session-byte asks-byte byte-shown reads-or-writes object-of
+unfolding opened room F1D0 all among same rising-from rising ascii digits pairs hex asks-flush cmd param in-length in-data size-right table-line command-table line-in line-of row object-number offset asked-length sent-data step-byte sent-metadata sent-body sent-number is-state may-become seen present names-counter counter-number state-holds usable condition-holds group-holds condition-counters group-counters groups-grant grant one-up used-up all-used-up in-session find entry table before-operational made factory-objects fresh-session with-opened with-error field fields-bytes led-by-20 read-fields sent-fields field-allowed fields-allowed metadata-allowed with-content shown put-at write-fits kind-number is is-counter direction big-endian-4 big-endian-4-at little-endian-4 little-endian-4-at little-endian-at body-allowed bodies-allowed numbered-below queue-allowed fare-bytes fares-bytes queue-bytes read-fare read-fares read-queue queue appended present-in past acknowledged moved at-or-past counted value threshold exhausted after-count ill-sized wrong-length flushed well-formed writes content-allowed changed excepted session-byte asks-byte byte-shown reads-or-writes object-of
 computed = []
 
 -- `unfolding allowing` opens what the check of a store asks of its objects
@@ -369,6 +373,89 @@ pub write-9-of-9-done : step write-9-of-9 room (pack (own-E120 ∷ [])) opened �
 unfolding computed own-E120 write-9-of-9 replaced
 write-9-of-9-done = write-exactly-when write-9-of-9 room (pack (own-E120 ∷ [])) opened (own-E120 ∷ []) own-E120 own-ready Write refl refl refl .when may-write-9-of-9
 
+-- a fare queue -------------------------------------------------------------------------------------------------------------
+
+-- F1D2, with room for two fares of 2 bytes
+unfoldable pub F1D2 : List ℕ → Object
+F1D2 content =
+    record { number = 0xF1D2; kind = Queue; maximum = 33; lcso = 0x01; change = always; read = always; execute = never; content = content }
+
+-- its bytes with next number FFFF, empty; then with one fare, A1 A2; then with two, the second B1 B2; and with the second alone
+unfoldable pub no-fare : List ℕ
+no-fare = hex "FF FF 00 00"
+
+unfoldable pub one-fare : List ℕ
+one-fare = hex "00 00 01 00 0A 00 01 00 FF FF 00 00 A1 A2"
+
+unfoldable pub two-fares : List ℕ
+two-fares = hex "01 00 01 00 0A 00 01 00 FF FF 00 00 A1 A2 0A 00 01 00 00 00 01 00 B1 B2"
+
+unfoldable pub second-fare : List ℕ
+second-fare = hex "01 00 01 00 0A 00 01 00 00 00 01 00 B1 B2"
+
+unfoldable pub with-queue : List ℕ → List Object
+with-queue content = F1D0 ∷ F1D2 content ∷ []
+
+pub one-fare-ready : Ready room (pack (with-queue one-fare)) opened (with-queue one-fare)
+unfolding computed allowing with-queue F1D2 one-fare
+one-fare-ready = let sound = unpack-pack (with-queue one-fare) refl in search (sound, arith)
+
+pub two-fares-ready : Ready room (pack (with-queue two-fares)) opened (with-queue two-fares)
+unfolding computed allowing with-queue F1D2 two-fares
+two-fares-ready = let sound = unpack-pack (with-queue two-fares) refl in search (sound, arith)
+
+-- B1 B2 appended
+unfoldable pub append-B : List ℕ
+append-B = hex "02 04 00 04 F1 D2 B1 B2"
+
+pub may-append : MayWrite Append append-B (seen (with-queue one-fare) opened) (F1D2 one-fare)
+unfolding computed with-queue F1D2 one-fare append-B
+may-append = search
+
+pub append-done : step append-B room (pack (with-queue one-fare)) opened ≡
+    record { outcome = 0; room = put-in-front (done-response []) room; store = pack (with-queue two-fares); session = opened }
+unfolding computed with-queue F1D2 one-fare two-fares append-B replaced
+append-done =
+    write-exactly-when append-B room (pack (with-queue one-fare)) opened (with-queue one-fare) (F1D2 one-fare) one-fare-ready Append refl refl refl .when may-append
+
+-- FFFF acknowledged
+unfoldable pub acknowledge-FFFF : List ℕ
+acknowledge-FFFF = hex "02 05 00 06 F1 D2 00 00 FF FF"
+
+pub may-acknowledge : MayWrite Acknowledge acknowledge-FFFF (seen (with-queue two-fares) opened) (F1D2 two-fares)
+unfolding computed with-queue F1D2 two-fares acknowledge-FFFF
+may-acknowledge = search
+
+pub acknowledge-done : step acknowledge-FFFF room (pack (with-queue two-fares)) opened ≡
+    record { outcome = 0; room = put-in-front (done-response []) room; store = pack (with-queue second-fare); session = opened }
+unfolding computed with-queue F1D2 two-fares second-fare acknowledge-FFFF replaced
+acknowledge-done =
+    write-exactly-when acknowledge-FFFF room (pack (with-queue two-fares)) opened (with-queue two-fares) (F1D2 two-fares) two-fares-ready Acknowledge
+    refl refl refl .when may-acknowledge
+
+-- a plain write of one byte there: well formed, its change condition holds, it would fit; but it is excepted, so it is not done and nothing is stored
+unfoldable pub plain-write : List ℕ
+plain-write = hex "02 00 00 05 F1 D2 00 00 11"
+
+pub plain-excepted : (well-formed plain-write ≡ true) × (holds (seen (with-queue two-fares) opened) 0x01 always ≡ true) ×
+    (content-allowed Write plain-write (F1D2 two-fares) ≡ true) × (excepted Write (F1D2 two-fares) ≡ true)
+unfolding computed with-queue F1D2 two-fares plain-write
+plain-excepted = (refl, refl, refl, refl)
+
+pub plain-writes : WritesExactly Write plain-write room (pack (with-queue two-fares)) opened (with-queue two-fares) (F1D2 two-fares)
+    (step plain-write room (pack (with-queue two-fares)) opened)
+unfolding computed with-queue F1D2 two-fares plain-write
+plain-writes = write-exactly-when plain-write room (pack (with-queue two-fares)) opened (with-queue two-fares) (F1D2 two-fares) two-fares-ready Write refl refl refl
+
+pub plain-not-done : is-done (step plain-write room (pack (with-queue two-fares)) opened) ≡ false
+unfolding computed F1D2
+plain-not-done =
+    by-test (is-done (step plain-write room (pack (with-queue two-fares)) opened)) (λ d. absurd (false≢true (sym (plain-writes .only-when d .not-excepted))))
+    (λ d. d)
+
+pub plain-kept : step plain-write room (pack (with-queue two-fares)) opened .store ≡ pack (with-queue two-fares)
+plain-kept = plain-writes .else-kept plain-not-done
+
 -- two lists, and a mix of them that takes from each in turn ---------------------------------------------------------------------------
 
 abbrev turn : List ℕ → Turn
@@ -548,6 +635,131 @@ counter-used = refl
 
 pub mixed-with-counters : {zs : List Turn} (m : Mix on-first on-second zs) → Mixed reply left on-first on-second zs m sold
 mixed-with-counters m = lists-mix m sold two-with-counters
+
+-- a queue over a run ------------------------------------------------------------------------------------------------------------------
+
+-- from the empty queue: two fares, a third that does not fit, the first acknowledged, the third again, a plain write, a write to another object, and
+-- the second acknowledged, with the flush bit
+unfoldable pub fare-turns : List Turn
+fare-turns =
+    turn (hex "02 04 00 04 F1 D2 A1 A2") ∷ turn (hex "02 04 00 04 F1 D2 B1 B2") ∷ turn (hex "02 04 00 04 F1 D2 C1 C2") ∷
+    turn (hex "02 05 00 06 F1 D2 00 00 FF FF") ∷ turn (hex "02 04 00 04 F1 D2 C1 C2") ∷ turn (hex "02 00 00 05 F1 D2 00 00 11") ∷
+    turn (hex "02 00 00 05 F1 D0 00 00 11") ∷ turn (hex "82 05 00 06 F1 D2 00 01 00 00") ∷ []
+
+unfoldable pub boarding : Kept
+boarding = record { store = pack (with-queue no-fare); session = opened }
+
+pub boarding-queue : stored-queue 0xF1D2 (boarding .store) ≡ some (empty-queue 0xFFFF)
+unfolding bench.computed computed with-queue F1D2 no-fare boarding stored-queue queue-of
+boarding-queue = refl
+
+-- so the theorem holds of it
+pub fares-kept : QueueKept 0xF1D2 (empty-queue 0xFFFF) fare-turns (run fare-turns boarding)
+fares-kept = queue-kept 0xF1D2 (empty-queue 0xFFFF) fare-turns boarding boarding-queue
+
+-- which are answered 00
+pub fares-answered : map answered-00 (run fare-turns boarding .replies) ≡ true ∷ true ∷ false ∷ true ∷ true ∷ false ∷ true ∷ true ∷ []
+unfolding bench.computed computed with-queue F1D2 no-fare boarding fare-turns answered-00
+fares-answered = refl
+
+-- and what the host notes
+pub fares-noted : account 0xF1D2 fare-turns (run fare-turns boarding .replies) (opening (empty-queue 0xFFFF)) ≡
+    record {
+      next = 0x10002;
+      accepted = fare 0xFFFF (hex "A1 A2") ∷ fare 0x10000 (hex "B1 B2") ∷ fare 0x10001 (hex "C1 C2") ∷ [];
+      acknowledged = fare 0xFFFF (hex "A1 A2") ∷ fare 0x10000 (hex "B1 B2") ∷ [];
+      outstanding = fare 0x10001 (hex "C1 C2") ∷ [];
+    }
+unfolding bench.computed computed with-queue F1D2 no-fare boarding fare-turns answered-00 account opening noted after-append after-acknowledge appends acknowledges up-to
+fares-noted = refl
+
+-- the queue that is left
+pub fares-left : stored-queue 0xF1D2 (run fare-turns boarding .kept .store) ≡ some (record { next = 0x10002; fares = fare 0x10001 (hex "C1 C2") ∷ [] })
+unfolding bench.computed computed with-queue F1D2 no-fare boarding fare-turns stored-queue queue-of
+fares-left = refl
+
+-- a fare that was accepted, C1 C2, once the first of two fares was acknowledged
+unfoldable pub append-C : Turn
+append-C = turn (hex "02 04 00 04 F1 D2 C1 C2")
+
+unfoldable pub earlier : List Turn
+earlier = turn acknowledge-FFFF ∷ []
+
+unfoldable pub riding : Kept
+riding = record { store = pack (with-queue two-fares); session = opened }
+
+unfoldable pub riding-fares : FareQueue
+riding-fares = record { next = 0x10001; fares = fare 0xFFFF (hex "A1 A2") ∷ fare 0x10000 (hex "B1 B2") ∷ [] }
+
+-- what is kept when it is sent
+abbrev sent : Kept
+sent = run earlier riding .kept
+
+pub riding-queue : stored-queue 0xF1D2 (riding .store) ≡ some riding-fares
+unfolding bench.computed computed with-queue F1D2 two-fares riding riding-fares stored-queue queue-of
+riding-queue = refl
+
+pub C-appends : appends 0xF1D2 (append-C .command) ≡ true
+unfolding computed append-C appends
+C-appends = refl
+
+pub C-answered : answered-00 (reply append-C sent) ≡ true
+unfolding bench.computed computed with-queue F1D2 two-fares riding earlier acknowledge-FFFF append-C answered-00
+C-answered = refl
+
+pub C-number : account 0xF1D2 earlier (run earlier riding .replies) (opening riding-fares) .next ≡ 0x10001
+unfolding bench.computed computed with-queue F1D2 two-fares riding riding-fares earlier acknowledge-FFFF answered-00 account opening noted after-append after-acknowledge appends acknowledges
+C-number = refl
+
+pub C-never-lost : (us : List Turn) → NeverLost 0xF1D2 riding-fares earlier append-C us (run earlier riding .replies) (run us (left append-C sent) .replies)
+    (run us (left append-C sent) .kept .store)
+unfolding earlier run answers end
+C-never-lost us =
+    never-lost 0xF1D2 riding-fares earlier append-C us riding (run earlier riding .replies) (reply append-C sent) (run us (left append-C sent) .replies)
+    riding-queue refl refl C-appends C-answered
+
+-- after an acknowledgement of the one before it and a plain write it is present
+unfoldable pub one-before : List Turn
+one-before = turn (hex "02 05 00 06 F1 D2 00 01 00 00") ∷ turn plain-write ∷ []
+
+-- commands of which none acknowledges a number so high
+none-acknowledges : (n m : ℕ) (us : List Turn) (rs : List Reply) →
+    all (map (λ (u : Turn). not (acknowledges n (u .command)) || ltb (sent-number (u .command)) m) us) ≡ true → Acknowledged n m us rs → ⊥
+unfolding all
+none-acknowledges n m [] rs h a = a
+none-acknowledges n m (u ∷ us) [] h a = a
+none-acknowledges n m (u ∷ us) (r ∷ rs) h (inl (done, l)) =
+    let own = rw (and-left (acknowledges n (u .command)) _ done) at (and-left (not (acknowledges n (u .command)) || ltb (sent-number (u .command)) m) _ h) in
+    let below = ltb-true (sent-number (u .command)) m own in
+    omega arith
+none-acknowledges n m (u ∷ us) (r ∷ rs) h (inr a) =
+    none-acknowledges n m us rs (and-right (not (acknowledges n (u .command)) || ltb (sent-number (u .command)) m) _ h) a
+
+pub C-not-acknowledged : Acknowledged 0xF1D2 0x10001 one-before (run one-before (left append-C sent) .replies) → ⊥
+unfolding computed one-before plain-write acknowledges
+C-not-acknowledged = none-acknowledges 0xF1D2 0x10001 one-before (run one-before (left append-C sent) .replies) refl
+
+pub C-present : Among (fare 0x10001 (sent-body (append-C .command))) (present-fares 0xF1D2 (run one-before (left append-C sent) .kept .store))
+C-present = by (rw C-number at (C-never-lost one-before)) C-not-acknowledged
+  where
+    by : {A B : Type 0} → A ⊎ B → (B → ⊥) → A
+    by (inl a) not-b = a
+    by (inr b) not-b = absurd (not-b b)
+
+-- and after its own acknowledgement it is not
+unfoldable pub itself : List Turn
+itself = turn (hex "02 05 00 06 F1 D2 00 01 00 01") ∷ []
+
+pub none-left : present-fares 0xF1D2 (run itself (left append-C sent) .kept .store) ≡ []
+unfolding bench.computed computed with-queue F1D2 two-fares riding earlier acknowledge-FFFF append-C itself stored-queue queue-of
+none-left = refl
+
+pub C-acknowledged : Acknowledged 0xF1D2 0x10001 itself (run itself (left append-C sent) .replies)
+C-acknowledged = by (rw C-number at (C-never-lost itself)) (λ m. rw none-left at m)
+  where
+    by : {A B : Type 0} → A ⊎ B → (A → ⊥) → B
+    by (inl a) not-a = absurd (not-a a)
+    by (inr b) not-a = b
 
 -- what is asked --------------------------------------------------------------------------------------------------------------------------
 

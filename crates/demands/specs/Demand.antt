@@ -11,17 +11,18 @@ use Rattle.mixing.specs.Runs.{All}
 use Rattle.rules.specs.declared.Session.{Session}
 use Rattle.rules.specs.declared.Refusal.{Refusal}
 use Rattle.rules.specs.declared.Action.{Action}
-use Rattle.rules.specs.declared.Action.the-variants.{GetData, GetMetadata, Write, EraseAndWrite, SetMetadata, Count}
-use Rattle.rules.specs.declared.Kind.the-variants.{Counter}
+use Rattle.rules.specs.declared.Action.the-variants.{GetData, GetMetadata, Write, EraseAndWrite, SetMetadata, Count, Append, Acknowledge}
+use Rattle.rules.specs.declared.Kind.the-variants.{Counter, Queue}
 use Rattle.rules.specs.declared.Direction.the-variants.{Up}
 use Rattle.rules.specs.declared.Row.{Row}
 use Rattle.rules.specs.declared.Row.the-variants.{OnObject, OpenApplication, CloseApplication, Unknown}
 use Rattle.rules.specs.Basic.{if_then_else_, among}
-use Rattle.rules.specs.Command.{asks-flush, object-number, offset, asked-length, sent-data, step-byte, sent-metadata, object-of}
+use Rattle.rules.specs.Command.{asks-flush, object-number, offset, asked-length, sent-data, step-byte, sent-metadata, sent-body, sent-number, object-of}
 use Rattle.rules.specs.Response.{code, done-response, refused-response, put-in-front}
 use Rattle.rules.specs.Expression.{Expression, is-state}
 use Rattle.rules.specs.Object.{Object, used, is, is-counter, direction, in-session, with-content}
 use Rattle.rules.specs.Counter.{exhausted, after-count}
+use Rattle.rules.specs.Queue.{fare-head, queue-bytes, queue-in, appended, present-in, acknowledged}
 use Rattle.rules.specs.Layout.{unpack, pack, find, replaced}
 use Rattle.rules.specs.Session.{with-error}
 use Rattle.rules.specs.Metadata.{Field, fields-bytes, object-fields, led-by-20, metadata-allowed, sent-fields, with-fields}
@@ -80,12 +81,14 @@ pub record Ready (room store : List ℕ) (s : Session) (os : List Object) : Type
 unfoldable pub well-formed : List ℕ → Bool
 well-formed c = not (ill-sized c) && not (wrong-length c)
 
--- a write to a stored object: data, erasing or not, metadata, and a count
+-- a write to a stored object: data, erasing or not, metadata, a count, an append and an acknowledgement
 unfoldable pub writes : Action → Bool
 writes Write = true
 writes EraseAndWrite = true
 writes SetMetadata = true
 writes Count = true
+writes Append = true
+writes Acknowledge = true
 writes GetData = false
 writes GetMetadata = false
 
@@ -96,6 +99,11 @@ content-allowed EraseAndWrite c o = write-fits o (offset c) (length (sent-data c
 content-allowed SetMetadata c o = metadata-allowed (o .lcso) (sent-metadata c)
 -- at offset 0 of a counter that is not at or past its threshold
 content-allowed Count c o = is-counter (o .kind) && eqb (offset c) 0 && not (exhausted (direction (o .kind)) (o .content))
+-- to a queue: the fare fits behind the others, and there is a number left for it
+content-allowed Append c o =
+    is Queue (o .kind) && leb (used o + fare-head + length (sent-body c)) (o .maximum) && not (eqb (queue-in (o .content) .next) 0xFFFFFFFF)
+-- at a queue: a fare of that number is present
+content-allowed Acknowledge c o = is Queue (o .kind) && present-in (queue-in (o .content) .fares) (sent-number c)
 content-allowed GetData c o = true
 content-allowed GetMetadata c o = true
 
@@ -105,8 +113,21 @@ changed Write c o = with-content (put-at (offset c) (sent-data c) (o .content)) 
 changed EraseAndWrite c o = with-content (put-at (offset c) (sent-data c) []) o
 changed SetMetadata c o = with-fields (sent-fields (sent-metadata c)) o
 changed Count c o = with-content (after-count (direction (o .kind)) (step-byte c) (o .content)) o
+changed Append c o = with-content (queue-bytes (appended (sent-body c) (queue-in (o .content)))) o
+changed Acknowledge c o = with-content (queue-bytes (acknowledged (sent-number c) (queue-in (o .content)))) o
 changed GetData c o = o
 changed GetMetadata c o = o
+
+-- the exception: a plain write, erasing or not, to a queue makes no change, whatever its change condition says
+unfoldable pub excepted : Action → Object → Bool
+excepted Write o = is Queue (o .kind)
+excepted EraseAndWrite o = is Queue (o .kind)
+excepted SetMetadata o = false
+excepted Count o = false
+excepted Append o = false
+excepted Acknowledge o = false
+excepted GetData o = false
+excepted GetMetadata o = false
 
 -- the counters that a command uses up where this expression grants it: those of the first true group from the left
 abbrev pub uses : Seen → ℕ → Expression → List ℕ
@@ -125,6 +146,7 @@ pub record MayWrite (a : Action) (c : List ℕ) (see : Seen) (o : Object) : Type
   pub command-well-formed : well-formed c ≡ true
   pub change-condition-holds : holds see (o .lcso) (o .change) ≡ true
   pub content-allowed-and-fits : content-allowed a c o ≡ true
+  pub not-excepted : excepted a o ≡ false
 
 -- the objects after a write: the object is the changed one, and then the counters that its change condition uses up are
 abbrev pub after-write : Action → List ℕ → Seen → Object → List Object → List Object
@@ -269,6 +291,8 @@ sets-metadata (OnObject GetMetadata) = false
 sets-metadata (OnObject Write) = false
 sets-metadata (OnObject EraseAndWrite) = false
 sets-metadata (OnObject Count) = false
+sets-metadata (OnObject Append) = false
+sets-metadata (OnObject Acknowledge) = false
 sets-metadata OpenApplication = false
 sets-metadata CloseApplication = false
 sets-metadata Unknown = false

@@ -5,7 +5,7 @@ use mathlib.Core.Bool.{Bool, true, false, false≢true}
 use mathlib.Core.List.{List, []}
 use mathlib.Core.Option.{Option, none, some}
 use native.Mathlib.Omega.{arith}
-use borrow.Author.Tests.{leb-true, lt-ltb, le-ltb, not-false}
+use borrow.Author.Tests.{leb-true, lt-ltb, le-ltb, ltb-false, not-false}
 use lib.ListN.{length}
 use Rattle.rules.specs.declared.ObjectNumber.{ObjectNumber}
 use Rattle.rules.specs.declared.Kind.{Kind}
@@ -15,7 +15,7 @@ use Rattle.rules.specs.declared.Refusal.{Refusal}
 use Rattle.rules.specs.declared.Verdict.{Verdict}
 use Rattle.rules.specs.declared.Verdict.the-variants.{Refused, Accepted}
 use Rattle.rules.specs.declared.Action.{Action}
-use Rattle.rules.specs.declared.Action.the-variants.{GetData, GetMetadata, Write, EraseAndWrite, SetMetadata, Count}
+use Rattle.rules.specs.declared.Action.the-variants.{GetData, GetMetadata, Write, EraseAndWrite, SetMetadata, Count, Append, Acknowledge}
 use Rattle.rules.specs.declared.Row.{Row}
 use Rattle.rules.specs.declared.Row.the-variants.{OnObject, OpenApplication, CloseApplication, Unknown}
 use Rattle.rules.specs.Basic.{is-some, or-else}
@@ -35,13 +35,14 @@ use Rattle.laws.proofs.Facts.{allowed}
 use Rattle.laws.proofs.Inverse.{unpack-pack, pack-unpack}
 use Rattle.laws.proofs.Places.{found-stands}
 use Rattle.laws.proofs.Verdicts.{passed, both-accepted, fitting-passed, fitting-accepts, LatePassed, late-passed}
-use Rattle.laws.proofs.Fitting.{write-within, operation-fitting, operation-outside}
+use Rattle.laws.proofs.Fitting.{write-within, next-below, operation-fitting, operation-outside}
 use Rattle.laws.proofs.Views.{Alike, operation-alike, session-left}
 use Rattle.laws.proofs.UsedUp.{none-used-up}
 use Rattle.laws.proofs.Keeps.{replaced-fits}
 use Rattle.record.specs.Places.{object-at, Stored}
 use Rattle.record.proofs.Standing.{standing}
 use Rattle.store.proofs.Placing.{finds-it, recorded-there}
+use Rattle.command.specs.Table.{BodySent}
 use Rattle.command.proofs.InForm.{in-form}
 use Rattle.judge.specs.declared.Target.{Target}
 use Rattle.judge.specs.declared.Target.the-variants.{InSession, InStore, Nothing}
@@ -74,17 +75,29 @@ session-told Write c k byte room h = fitting-passed 0 room (passed _ _ _ (passed
 session-told EraseAndWrite c k byte room h = fitting-passed 0 room (passed _ _ _ (passed _ _ _ (passed _ _ _ h .1) .1) .1)
 session-told SetMetadata c k byte room h = absurd (not-accepted h)
 session-told Count c k byte room h = absurd (not-accepted (passed _ _ _ h .1))
+session-told Append c k byte room h = absurd (not-accepted (passed _ _ _ h .1))
+session-told Acknowledge c k byte room h = absurd (not-accepted (passed _ _ _ h .1))
 
 -- and at a found record
-record-told : (a : Action) (c : List ℕ) (o : Object) (see : Seen) (room : ℕ) → object-allowed o ≡ true → LatePassed a c o see room → OnRecordMay a c o room
+record-told : (a : Action) (c : List ℕ) (o : Object) (see : Seen) (room : ℕ) → object-allowed o ≡ true → BodySent a c → LatePassed a c o see room →
+    OnRecordMay a c o room
 unfolding operation
-record-told GetData c o see room ok l =
+record-told GetData c o see room ok sent l =
     (leb-true (offset c) (used o) (not-false _ (passed _ _ _ (l .own) .0)), l .fits)
-record-told GetMetadata c o see room ok l = l .fits
-record-told Write c o see room ok l = (write-within o _ _ ok (not-false _ (passed _ _ _ (l .own) .0)) .within, l .fits)
-record-told EraseAndWrite c o see room ok l = (write-within o _ _ ok (not-false _ (passed _ _ _ (l .own) .0)) .within, l .fits)
-record-told SetMetadata c o see room ok l = (not-false _ (passed _ _ _ (l .own) .0), l .fits)
-record-told Count c o see room ok l = (not-false _ (passed _ _ _ (l .own) .0), l .fits)
+record-told GetMetadata c o see room ok sent l = l .fits
+record-told Write c o see room ok sent l = (write-within o _ _ ok (not-false _ (passed _ _ _ (l .own) .0)) .within, l .fits)
+record-told EraseAndWrite c o see room ok sent l = (write-within o _ _ ok (not-false _ (passed _ _ _ (l .own) .0)) .within, l .fits)
+record-told SetMetadata c o see room ok sent l = (not-false _ (passed _ _ _ (l .own) .0), l .fits)
+record-told Count c o see room ok sent l = (not-false _ (passed _ _ _ (l .own) .0), l .fits)
+record-told Append c o see room ok sent l =
+    let (kind, v11) = passed _ _ _ (l .own) in
+    let (room-left, v13) = passed _ _ _ v11 in
+    let q = not-false _ kind in
+    let number = next-below o ok q (passed _ _ _ v13 .0) in
+    (record { is-queue = q; allowed = sent refl; fits = ltb-false (o .maximum) _ room-left; number-left = number }, l .fits)
+record-told Acknowledge c o see room ok sent l =
+    let (kind, v12) = passed _ _ _ (l .own) in
+    (record { is-queue = not-false _ kind; present = not-false _ (passed _ _ _ v12 .0) }, l .fits)
 
 -- what is done at an object of the session does not depend on its kind, nor on stored objects
 session-alike : (a : Action) (c : List ℕ) (n byte room : ℕ) (k : Kind) (os : List Object) (s : Session) → InSessionMay a c byte room →
@@ -97,6 +110,8 @@ session-alike Write c n byte room k os s m = (refl, refl)
 session-alike EraseAndWrite c n byte room k os s m = (refl, refl)
 session-alike SetMetadata c n byte room k os s m = absurd m
 session-alike Count c n byte room k os s m = absurd m
+session-alike Append c n byte room k os s m = absurd m
+session-alike Acknowledge c n byte room k os s m = absurd m
 
 module _ (a : Action) (c b : List ℕ) (s : Session) (aim : Target) (t : Placed aim c b) where
   abbrev os : List Object
@@ -117,16 +132,16 @@ module _ (a : Action) (c b : List ℕ) (s : Session) (aim : Target) (t : Placed 
     unfolding target-object
     record-late p e = late-passed a c (object-at p b) see room (rw e at h)
 
-    pub record-may : (p : ℕ) → aim ≡ InStore p → OnRecordMay a c (object-at p b) room
-    record-may p e =
+    pub record-may : (p : ℕ) → BodySent a c → aim ≡ InStore p → OnRecordMay a c (object-at p b) room
+    record-may p sent e =
         let there : Stored p b × (found (object-number c) os ≡ found-at.At p) = rw e at t in
-        record-told a c (object-at p b) see room (standing p b (there .0 .stands) .allowed) (record-late p e)
+        record-told a c (object-at p b) see room (standing p b (there .0 .stands) .allowed) sent (record-late p e)
 
     pub nothing-late : aim ≡ Nothing → ⊥
     unfolding target-object late ruling-on _and-then_
     nothing-late e = not-accepted (rw e at h)
 
-  module _ (sound : is-some (unpack b) ≡ true) where
+  module _ (sound : is-some (unpack b) ≡ true) (sent : BodySent a c) where
     unpacked : unpack b ≡ some os
     unpacked = some-else (unpack b) [] sound
 
@@ -163,7 +178,8 @@ module _ (a : Action) (c b : List ℕ) (s : Session) (aim : Target) (t : Placed 
       same-store p e (some new) q =
           let there : Stored p b × (found (object-number c) os ≡ found-at.At p) = rw e at t in
           let ok = standing p b (there .0 .stands) .allowed in
-          let f = operation-fitting a c (object-at p b) see new ok (record-late (length room) h p e .own) q in
+          let l = record-late (length room) h p e in
+          let f = operation-fitting a c (object-at p b) see new ok sent (l .granted) (l .own) q in
           recorded-there (object-number c) p b os unpacked (there .1) new (f .allowed) (f .number) (f .maximum)
 
       -- and those objects are read back from it
@@ -174,7 +190,8 @@ module _ (a : Action) (c b : List ℕ) (s : Session) (aim : Target) (t : Placed 
       still-sound p e (some new) q =
           let there : Stored p b × (found (object-number c) os ≡ found-at.At p) = rw e at t in
           let ok = standing p b (there .0 .stands) .allowed in
-          let f = operation-fitting a c (object-at p b) see new ok (record-late (length room) h p e .own) q in
+          let l = record-late (length room) h p e in
+          let f = operation-fitting a c (object-at p b) see new ok sent (l .granted) (l .own) q in
           let st = found-stands (object-number c) os (object-at p b) (finds-it (object-number c) p b os unpacked (there .1)) in
           unpack-pack (replaced new os) (replaced-fits (object-number c) os (object-at p b) new (pack-unpack b os unpacked .1) st f .allowed)
 

@@ -21,7 +21,7 @@ ghost use Rattle.rules.specs.Layout.{unpack};
 ghost use Rattle.rules.specs.Access.{seen-in};
 ghost use Rattle.rules.specs.Refusals.{early, ruling-on, late};
 ghost use Rattle.rules.specs.Step.{raised, performed, judged};
-ghost use Rattle.command.specs.Table.{InFull};
+ghost use Rattle.command.specs.Table.{InFull, BodySent};
 ghost use Rattle.access.specs.Told.{listed};
 ghost use Rattle.judge.specs.Targets.{target-object, Placed};
 ghost use Rattle.element.specs.Executed.{executed, Executes};
@@ -43,7 +43,7 @@ fn perform(
     session: Session,
     room: &mut [u8],
 ) -> Session
-    requires { ⌜ InFull asked (now command) × (is-some (unpack (now store)) ≡ true) × Placed aim (now command) (now store)
+    requires { ⌜ InFull asked (now command) × BodySent asked (now command) × (is-some (unpack (now store)) ≡ true) × Placed aim (now command) (now store)
         × (late (ruling-on asked (now command) (target-object aim (now store)) (seen-in (now store) session)) (length (now room)) ≡ Accepted)
         × (listed counters ≡ ruling-on asked (now command) (target-object aim (now store)) (seen-in (now store) session) .counters)
         × (counters .count ≤ most-conditions slot-size) ⌝ }

@@ -1,7 +1,7 @@
 -- Steps 10 to 13, action by action, at an object of the session and at a found record.
 use Prim.Native.Nat.{ℕ, _+_, _-_, min}
 use mathlib.Core.Path.{_≡_, refl, sym, ap, _∙_}
-use mathlib.Core.Bool.{Bool, true, false, not, _&&_}
+use mathlib.Core.Bool.{Bool, true, false, not, _&&_, false≢true}
 use mathlib.Core.List.{List, []}
 use native.Mathlib.Omega.{arith}
 use mathlib.Core.Option.{none, some}
@@ -10,17 +10,17 @@ use lib.Dec.{eqb, leb}
 use lib.ListN.{length, getD}
 use lib.Seq.{getD-drop}
 use Rattle.rules.specs.declared.Kind.{Kind}
-use Rattle.rules.specs.declared.Kind.the-variants.{Counter, LifeCycle}
+use Rattle.rules.specs.declared.Kind.the-variants.{Counter, Queue, LifeCycle}
 use Rattle.rules.specs.declared.Direction.{Direction}
 use Rattle.rules.specs.declared.Direction.the-variants.{Up, Down}
 use Rattle.rules.specs.declared.ObjectNumber.{ObjectNumber}
 use Rattle.rules.specs.declared.Verdict.{Verdict}
 use Rattle.rules.specs.declared.Verdict.the-variants.{Refused, Accepted}
 use Rattle.rules.specs.declared.Refusal.{Refusal}
-use Rattle.rules.specs.declared.Refusal.the-variants.{InvalidObject, AccessDenied, BoundaryExceeded, InvalidData}
+use Rattle.rules.specs.declared.Refusal.the-variants.{InvalidObject, InvalidParam, AccessDenied, BoundaryExceeded, InvalidData}
 use Rattle.rules.specs.declared.Action.{Action}
-use Rattle.rules.specs.declared.Action.the-variants.{GetData, GetMetadata, Write, EraseAndWrite, SetMetadata, Count}
-use Rattle.rules.specs.Command.{offset, asked-length, sent-data, sent-metadata}
+use Rattle.rules.specs.declared.Action.the-variants.{GetData, GetMetadata, Write, EraseAndWrite, SetMetadata, Count, Append, Acknowledge}
+use Rattle.rules.specs.Command.{offset, asked-length, sent-data, sent-metadata, sent-body, sent-number}
 use Rattle.rules.specs.Basic.{if_then_else_}
 use Rattle.rules.specs.Expression.{may-become, always, never}
 use Rattle.rules.specs.Object.{Object, used, kind-number, is, of-session, is-counter, counter-size}
@@ -31,7 +31,8 @@ use Rattle.rules.specs.Chain.{_refused_or_, _and-then_}
 use Rattle.rules.specs.Access.{Seen, seen, Grant, grant, asked, access, granted}
 use Rattle.rules.specs.Operation.{shown, write-fits, value-allowed, operation}
 use Rattle.rules.specs.Refusals.{ruling-on, fitting, late}
-use Rattle.laws.proofs.Tests.{or-parts}
+use Rattle.laws.proofs.Tests.{or-parts, by-test}
+use Rattle.laws.proofs.Fitting.{queue-stored}
 use Rattle.laws.proofs.Puts.{shown-length}
 use Rattle.laws.proofs.Views.{operation-alike}
 use Rattle.record.specs.Places.{object-at, Stored}
@@ -42,7 +43,7 @@ use Rattle.access.specs.Told.{listed, told}
 use Rattle.judge.specs.declared.Target.{Target}
 use Rattle.judge.specs.declared.Target.the-variants.{InSession, InStore}
 use Rattle.judge.specs.Targets.{target-object, Placed}
-use Rattle.judge.specs.Verdicts.{own-verdict, write-verdict, state-verdict, session-count-verdict, session-verdict}
+use Rattle.judge.specs.Verdicts.{own-verdict, write-verdict, state-verdict, session-refused, session-verdict}
 
 -- what the calls gave ---------------------------------------------------------------------------------------------------------
 
@@ -131,32 +132,53 @@ get-judged c o k n u room r ek en eu f =
     let many : length (shown c (o .content)) ≡ min u (k + n) - k = omega (arith, ek, en, eu, shown-length c (o .content)) in
     rw (then-later, many, ← ek, eu) f
 
+-- an append and an acknowledgement, by what the calls gave
+module _ (c : List ℕ) (o : Object) (v r : Verdict) (room : ℕ) (f : r ≡ (v and-then fitting 0 room)) where
+  pub append-judged : (body : List ℕ) → body ≡ sent-body c →
+      ((d : List ℕ) (see : Seen) → sent-body d ≡ body → v ≡ operation Append d o see .verdict) → r ≡ own-verdict Append c o room
+  unfolding operation
+  append-judged body e h = f ∙ ap (λ w. w and-then fitting 0 room) (h c (seen [] fresh-session) (sym e))
+
+  pub acknowledge-judged : (n : ℕ) → n ≡ sent-number c →
+      ((d : List ℕ) (see : Seen) → sent-number d ≡ n → v ≡ operation Acknowledge d o see .verdict) → r ≡ own-verdict Acknowledge c o room
+  unfolding operation
+  acknowledge-judged n e h = f ∙ ap (λ w. w and-then fitting 0 room) (h c (seen [] fresh-session) (sym e))
+
 -- at an object of the session -----------------------------------------------------------------------------------------------
 
--- a life cycle is no counter
+-- a life cycle is no counter and no queue
 no-counter : (k : Kind) → is LifeCycle k ≡ true → is-counter k ≡ false
 unfolding is is-counter kind-number
 no-counter k h = rw (← eqb-true 0x10001 (kind-number k) h)
 
+no-queue : (k : Kind) → is LifeCycle k ≡ true → is Queue k ≡ false
+unfolding is kind-number
+no-queue k h = rw (← eqb-true 0x10001 (kind-number k) h)
+
+-- nor is another object of the session
+session-no-queue : (k : Kind) → of-session k ≡ true → is Queue k ≡ false
+session-no-queue k of = by-test (is Queue k) (λ q. absurd (false≢true (sym (queue-stored k q) ∙ of))) (λ q. q)
+
 -- a write: of the kind, only whether it is a life cycle counts
-state-judged : (c : List ℕ) (n byte : ℕ) (k : Kind) (see : Seen) (room : ℕ) →
+state-judged : (c : List ℕ) (n byte : ℕ) (k : Kind) (see : Seen) (room : ℕ) → of-session k ≡ true →
     state-verdict c k byte room ≡ late (ruling-on Write c (some (session-object n k byte)) see) room
 unfolding late ruling-on access asked session-object session-change grant operation write-fits value-allowed _refused_or_ _and-then_
-state-judged c n byte k see room = by (is LifeCycle k) refl
+state-judged c n byte k see room of = by (is LifeCycle k) refl
   where
     by : (t : Bool) → is LifeCycle k ≡ t → state-verdict c k byte room ≡ late (ruling-on Write c (some (session-object n k byte)) see) room
-    by true e = rw (e, no-counter k e) (simp then-later)
-    by false e = rw e
+    by true e = rw (e, no-counter k e, no-queue k e) (simp then-later)
+    by false e = rw (e, session-no-queue k of)
 
--- a count
-count-judged : (c : List ℕ) (n byte : ℕ) (k : Kind) (see : Seen) (room : ℕ) →
-    session-count-verdict k ≡ late (ruling-on Count c (some (session-object n k byte)) see) room
-unfolding late ruling-on access asked session-object session-change grant operation _refused_or_ _and-then_
-count-judged c n byte k see room = by (is LifeCycle k) refl
+-- a count, an append and an acknowledgement: 03 where change is always granted, 07 where it never is
+refused-judged : (a : Action) (c : List ℕ) (n byte : ℕ) (k : Kind) (see : Seen) (room : ℕ) → asked a (session-object n k byte) ≡ session-change k →
+    (is LifeCycle k ≡ true → operation a c (session-object n k byte) see .verdict ≡ Refused InvalidParam) →
+    session-refused k ≡ late (ruling-on a c (some (session-object n k byte)) see) room
+unfolding late ruling-on access session-change grant _refused_or_ _and-then_
+refused-judged a c n byte k see room q v = by (is LifeCycle k) refl
   where
-    by : (t : Bool) → is LifeCycle k ≡ t → session-count-verdict k ≡ late (ruling-on Count c (some (session-object n k byte)) see) room
-    by true e = rw (e, no-counter k e)
-    by false e = rw e
+    by : (t : Bool) → is LifeCycle k ≡ t → session-refused k ≡ late (ruling-on a c (some (session-object n k byte)) see) room
+    by true e = rw (q, e, v e)
+    by false e = rw (q, e)
 
 always-or-never : (t : Bool) (see : Seen) (lcso : ℕ) → grant see lcso (if t then always else never) .counters ≡ []
 unfolding grant
@@ -168,20 +190,24 @@ pub session-uses-none : (a : Action) (n byte : ℕ) (k : Kind) (see : Seen) → 
 unfolding access asked session-object session-change grant
 session-uses-none GetData n byte k see of = refl
 session-uses-none GetMetadata n byte k see of = rw of
-session-uses-none Write n byte k see of = always-or-never (is LifeCycle k) see _
-session-uses-none EraseAndWrite n byte k see of = always-or-never (is LifeCycle k) see _
+session-uses-none Write n byte k see of = rw (session-no-queue k of) (always-or-never (is LifeCycle k) see _)
+session-uses-none EraseAndWrite n byte k see of = rw (session-no-queue k of) (always-or-never (is LifeCycle k) see _)
 session-uses-none SetMetadata n byte k see of = rw of
 session-uses-none Count n byte k see of = always-or-never (is LifeCycle k) see _
+session-uses-none Append n byte k see of = always-or-never (is LifeCycle k) see _
+session-uses-none Acknowledge n byte k see of = always-or-never (is LifeCycle k) see _
 
 module _ (c : List ℕ) (n byte : ℕ) (k : Kind) (see : Seen) (room : ℕ) (of : of-session k ≡ true) where
   pub session-judged : (a : Action) → session-verdict a c k byte room ≡ late (ruling-on a c (some (session-object n k byte)) see) room
   unfolding late ruling-on operation access asked session-object grant _refused_or_ _and-then_
   session-judged GetData = sym (judged c (session-object n k byte) see room GetData)
   session-judged GetMetadata = rw of
-  session-judged Write = state-judged c n byte k see room
-  session-judged EraseAndWrite = state-judged c n byte k see room
+  session-judged Write = state-judged c n byte k see room of
+  session-judged EraseAndWrite = state-judged c n byte k see room of
   session-judged SetMetadata = rw of
-  session-judged Count = count-judged c n byte k see room
+  session-judged Count = refused-judged Count c n byte k see room refl (λ h. rw (no-counter k h))
+  session-judged Append = refused-judged Append c n byte k see room refl (λ h. rw (no-queue k h))
+  session-judged Acknowledge = refused-judged Acknowledge c n byte k see room refl (λ h. rw (no-queue k h))
 
 -- at a found record ---------------------------------------------------------------------------------------------------------
 

@@ -7,7 +7,7 @@ use lib.ListN.{length, getD}
 use Rattle.rules.specs.declared.Kind.{Kind}
 use Rattle.rules.specs.declared.Kind.the-variants.{LifeCycle}
 use Rattle.rules.specs.declared.Action.{Action}
-use Rattle.rules.specs.declared.Action.the-variants.{GetData, GetMetadata, Write, EraseAndWrite, SetMetadata, Count}
+use Rattle.rules.specs.declared.Action.the-variants.{GetData, GetMetadata, Write, EraseAndWrite, SetMetadata, Count, Append, Acknowledge}
 use Rattle.rules.specs.declared.Refusal.the-variants.{InvalidParam, AccessDenied, BoundaryExceeded, InvalidData}
 use Rattle.rules.specs.declared.Verdict.{Verdict}
 use Rattle.rules.specs.declared.Verdict.the-variants.{Refused}
@@ -41,9 +41,9 @@ state-verdict c k byte room =
     not (may-become byte (getD (sent-data c) 0 0)) refused InvalidData or
     fitting 0 room
 
--- a count of an object of the session, access included
-abbrev pub session-count-verdict : Kind → Verdict
-session-count-verdict k =
+-- a count, an append or an acknowledgement at an object of the session, access included
+abbrev pub session-refused : Kind → Verdict
+session-refused k =
     is LifeCycle k refused InvalidParam or
     Refused AccessDenied
 
@@ -54,4 +54,6 @@ session-verdict GetMetadata c k byte room = Refused AccessDenied
 session-verdict Write c k byte room = state-verdict c k byte room
 session-verdict EraseAndWrite c k byte room = state-verdict c k byte room
 session-verdict SetMetadata c k byte room = Refused AccessDenied
-session-verdict Count c k byte room = session-count-verdict k
+session-verdict Count c k byte room = session-refused k
+session-verdict Append c k byte room = session-refused k
+session-verdict Acknowledge c k byte room = session-refused k

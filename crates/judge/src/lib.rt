@@ -15,22 +15,22 @@ ghost use mathlib.Core.Option.{some};
 ghost use Prim.Native.Nat.{_≤_};
 ghost use lib.ListN.{length};
 ghost use Rattle.rules.specs.declared.Kind.the-variants.{LifeCycle};
-ghost use Rattle.rules.specs.declared.Action.the-variants.{GetData, SetMetadata, Count};
+ghost use Rattle.rules.specs.declared.Action.the-variants.{GetData, SetMetadata, Count, Append, Acknowledge};
 ghost use Rattle.rules.specs.declared.Refusal.the-variants.{AccessDenied};
 ghost use Rattle.rules.specs.Basic.{is-some};
 ghost use Rattle.rules.specs.Command.{object-number, offset, sent-data};
 ghost use Rattle.rules.specs.Expression.{slot-size, most-conditions};
 ghost use Rattle.rules.specs.Object.{Object, used, is};
 ghost use Rattle.rules.specs.Layout.{unpack};
-ghost use Rattle.rules.specs.Chain.{_refused_or_};
+ghost use Rattle.rules.specs.Chain.{_refused_or_, _and-then_};
 ghost use Rattle.rules.specs.Access.{seen-in, named};
 ghost use Rattle.rules.specs.Operation.{write-fits};
-ghost use Rattle.rules.specs.Refusals.{ruling-on};
+ghost use Rattle.rules.specs.Refusals.{ruling-on, fitting};
 ghost use Rattle.access.specs.Told.{listed};
 ghost use Rattle.command.specs.Table.{InFull};
 ghost use Rattle.record.specs.Places.{object-at, Stored};
 ghost use Rattle.judge.specs.Targets.{target-object, Placed};
-ghost use Rattle.judge.specs.Verdicts.{write-verdict, state-verdict, own-verdict, session-count-verdict, session-verdict};
+ghost use Rattle.judge.specs.Verdicts.{write-verdict, state-verdict, own-verdict, session-refused, session-verdict};
 ghost use Rattle.judge.specs.Judges.{Judges};
 
 // What a get or set names: an object of the session (its number, kind and byte), a record's place, or nothing.
@@ -120,6 +120,34 @@ fn judge_count(command: &[u8], store: &[u8], at: usize, room: usize) -> Verdict
     bounds::fitting(Length(0), room)
 }
 
+// A verdict, then step 13 of an answer with no data.
+fn and_fits(verdict: Verdict, room: usize) -> Verdict
+    ensures { λ r. ⌜ r ≡ (verdict and-then fitting 0 room) ⌝ }
+{
+    match verdict {
+        Verdict::Refused(refusal) => Verdict::Refused(refusal),
+        Verdict::Accepted => bounds::fitting(Length(0), room),
+    }
+}
+
+// Of an append at a found record.
+fn judge_append(command: &[u8], store: &[u8], at: usize, room: usize) -> Verdict
+    requires { ⌜ Stored at (now store) × (6 ≤ length (now command)) ⌝ }
+    ensures { λ r. ⌜ r ≡ own-verdict Append (now (command .entry)) (object-at at (now (store .entry))) room ⌝ }
+{
+    let body = command::sent_body(command);
+    and_fits(fares::judge_append(store, at, body), room)
+}
+
+// Of an acknowledgement at a found record.
+fn judge_acknowledge(command: &[u8], store: &[u8], at: usize, room: usize) -> Verdict
+    requires { ⌜ Stored at (now store) × (10 ≤ length (now command)) ⌝ }
+    ensures { λ r. ⌜ r ≡ own-verdict Acknowledge (now (command .entry)) (object-at at (now (store .entry))) room ⌝ }
+{
+    let number = command::sent_number(command);
+    and_fits(fares::judge_acknowledge(store, at, number), room)
+}
+
 // Whether the kind is that of a life cycle: another object of the session may not be written.
 fn is_life_cycle(kind: Kind) -> bool
     ensures { λ r. ⌜ r ≡ is LifeCycle kind ⌝ }
@@ -127,6 +155,7 @@ fn is_life_cycle(kind: Kind) -> bool
     match kind {
         Kind::Data => false,
         Kind::Counter(_) => false,
+        Kind::Queue => false,
         Kind::LifeCycle => true,
         Kind::Status => false,
     }
@@ -151,9 +180,9 @@ fn judge_state(command: &[u8], kind: Kind, byte: u8, room: usize) -> Verdict
     bounds::fitting(Length(0), room)
 }
 
-// A count of an object of the session: a life cycle is no counter, and another one may not be changed.
-fn judge_session_count(kind: Kind) -> Verdict
-    ensures { λ r. ⌜ r ≡ session-count-verdict kind ⌝ }
+// A count, an append or an acknowledgement at an object of the session: a life cycle is of another kind, and another one may not be changed.
+fn refuse_in_session(kind: Kind) -> Verdict
+    ensures { λ r. ⌜ r ≡ session-refused kind ⌝ }
 {
     if is_life_cycle(kind) {
         return Verdict::Refused(Refusal::InvalidParam);
@@ -172,7 +201,9 @@ fn judge_session(asked: Action, command: &[u8], kind: Kind, byte: u8, room: usiz
         Action::Write => judge_state(command, kind, byte, room),
         Action::EraseAndWrite => judge_state(command, kind, byte, room),
         Action::SetMetadata => Verdict::Refused(Refusal::AccessDenied),
-        Action::Count => judge_session_count(kind),
+        Action::Count => refuse_in_session(kind),
+        Action::Append => refuse_in_session(kind),
+        Action::Acknowledge => refuse_in_session(kind),
     }
 }
 
@@ -212,6 +243,8 @@ fn judge_granted(
         Action::EraseAndWrite => judge_write(command, store, at, room),
         Action::SetMetadata => judge_metadata(command, store, at, room),
         Action::Count => judge_count(command, store, at, room),
+        Action::Append => judge_append(command, store, at, room),
+        Action::Acknowledge => judge_acknowledge(command, store, at, room),
     }
 }
 

@@ -6,7 +6,7 @@ use mathlib.Core.Path.{_≡_, refl}
 use borrow.Author.Tests.{leb-true, le-leb, ltb-true, lt-ltb, not-true}
 use lib.ListN.{length}
 use Rattle.rules.specs.declared.Kind.{Kind}
-use Rattle.rules.specs.declared.Kind.the-variants.{Data, Counter, LifeCycle, Status}
+use Rattle.rules.specs.declared.Kind.the-variants.{Data, Counter, Queue, LifeCycle, Status}
 use Rattle.rules.specs.declared.Direction.the-variants.{Up, Down}
 use Rattle.rules.specs.Basic.{all, rising}
 use Rattle.rules.specs.Expression.{slot-size, is-state, expression-allowed-with}
@@ -26,6 +26,7 @@ unfolding data-allowed read-kind kind-number of-session is
 storable Data m b h = record { read-back = refl; not-of-session = refl }
 storable (Counter Up) m b h = record { read-back = refl; not-of-session = refl }
 storable (Counter Down) m b h = record { read-back = refl; not-of-session = refl }
+storable Queue m b h = record { read-back = refl; not-of-session = refl }
 storable LifeCycle m b h = absurd (false≢true h)
 storable Status m b h = absurd (false≢true h)
 

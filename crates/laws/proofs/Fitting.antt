@@ -1,31 +1,34 @@
 -- What an action stores may stand in the place of the object that it found: it is allowed and as large.
-use Prim.Native.Nat.{ℕ, _+_, _≤_}
+use Prim.Native.Nat.{ℕ, _+_, _≤_, _<_}
 use mathlib.Core.Bool.{Bool, true, false, _&&_, false≢true}
 use mathlib.Core.List.{List, [], _∷_}
 use mathlib.Core.Option.{Option, none, some}
 use mathlib.Core.Path.{_≡_, refl, sym, ap, _∙_}
 use native.Mathlib.Omega.{arith}
-use borrow.Author.Tests.{leb-true, eqb-true, not-false}
+use borrow.Author.Tests.{leb-true, ltb-false, eqb-true, eqb-false, not-false}
 use lib.Dec.{eqb, leb}
 use lib.ListN.{length, length-drop}
 use Rattle.rules.specs.declared.Kind.{Kind}
-use Rattle.rules.specs.declared.Kind.the-variants.{Data, Counter, LifeCycle, Status}
+use Rattle.rules.specs.declared.Kind.the-variants.{Data, Counter, Queue, LifeCycle, Status}
 use Rattle.rules.specs.declared.Direction.{Direction}
 use Rattle.rules.specs.declared.Direction.the-variants.{Up, Down}
 use Rattle.rules.specs.declared.Action.{Action}
-use Rattle.rules.specs.declared.Action.the-variants.{GetData, GetMetadata, Write, EraseAndWrite, SetMetadata, Count}
+use Rattle.rules.specs.declared.Action.the-variants.{GetData, GetMetadata, Write, EraseAndWrite, SetMetadata, Count, Append, Acknowledge}
 use Rattle.rules.specs.declared.Verdict.the-variants.{Accepted}
-use Rattle.rules.specs.Basic.{if_then_else_, among, or-else, big-endian-4}
-use Rattle.rules.specs.Command.{offset, sent-data, step-byte, sent-metadata}
+use Rattle.rules.specs.Basic.{if_then_else_, among, is-some, or-else, big-endian-4}
+use Rattle.rules.specs.Command.{offset, sent-data, step-byte, sent-metadata, sent-body, sent-number}
 use Rattle.rules.specs.Expression.{Expression, never, expression, expression-allowed, is-state, may-become}
-use Rattle.rules.specs.Object.{Object, kind-number, is, of-session, is-counter, direction, counter-size, data-allowed, object-allowed, with-content}
+use Rattle.rules.specs.Object.{Object, used, kind-number, is, of-session, is-counter, direction, counter-size, data-allowed, object-allowed, with-content}
 use Rattle.rules.specs.Counter.{after-count}
+use Rattle.rules.specs.Queue.{FareQueue, fare-head, body-allowed, queue-allowed, queue-bytes, queue, queue-in, appended, acknowledged}
 use Rattle.rules.specs.Metadata.{Field, field-allowed, fields-allowed, value-of, sent-state, sent-expression, with-fields, metadata-allowed, sent-fields}
 use Rattle.rules.specs.Access.{Seen, grant, holds, one-up, used-up, asked, access, granted}
 use Rattle.rules.specs.Operation.{put-at, write-fits, writing, operation}
 use Rattle.laws.proofs.Tests.{if-by, and-left, and-right, at-place}
 use Rattle.laws.proofs.Expressions.{expression-read}
 use Rattle.laws.proofs.Facts.{allowed, allowed-by}
+use Rattle.laws.proofs.Queues.{queue-size, queue-length, queue-of-bytes, sound-layout}
+use Rattle.laws.proofs.QueueChanges.{Allowed, allowed as queue-facts, appended-allowed, appended-size, acknowledged-allowed, acknowledged-size}
 use Rattle.laws.proofs.Verdicts.{passed}
 use Rattle.laws.proofs.Puts.{put-used}
 
@@ -37,21 +40,23 @@ pub record Fitting (o new : Object) : Type 0 where
 
 -- data ---------------------------------------------------------------------------------------------------------------------
 
--- other bytes are allowed: of a counter, as many
-other-bytes : (k : Kind) (m : ℕ) (old b : List ℕ) → data-allowed k m old ≡ true → (is-counter k ≡ true → length b ≡ counter-size) → data-allowed k m b ≡ true
+-- other bytes are allowed: of a counter, as many; of a queue, those of a queue
+other-bytes : (k : Kind) (m : ℕ) (old b : List ℕ) → data-allowed k m old ≡ true → (is-counter k ≡ true → length b ≡ counter-size) →
+    (is Queue k ≡ true → is-some (queue b) ≡ true) → data-allowed k m b ≡ true
 unfolding data-allowed is-counter is kind-number
-other-bytes Data m old b h l = h
-other-bytes (Counter Up) m old b h l = rw (l refl, and-left (eqb m counter-size) _ h)
-other-bytes (Counter Down) m old b h l = rw (l refl, and-left (eqb m counter-size) _ h)
-other-bytes LifeCycle m old b h l = h
-other-bytes Status m old b h l = h
+other-bytes Data m old b h l q = h
+other-bytes (Counter Up) m old b h l q = rw (l refl, and-left (eqb m counter-size) _ h)
+other-bytes (Counter Down) m old b h l q = rw (l refl, and-left (eqb m counter-size) _ h)
+other-bytes Queue m old b h l q = q refl
+other-bytes LifeCycle m old b h l q = h
+other-bytes Status m old b h l q = h
 
 pub content-fits : (b : List ℕ) (o : Object) → object-allowed o ≡ true → length b ≤ o .maximum → (is-counter (o .kind) ≡ true → length b ≡ counter-size) →
-    Fitting o (with-content b o)
+    (is Queue (o .kind) ≡ true → is-some (queue b) ≡ true) → Fitting o (with-content b o)
 unfolding with-content
-content-fits b o h l n =
+content-fits b o h l n q =
     let a = allowed o h in
-    let content = other-bytes (o .kind) (o .maximum) (o .content) b (a .content) n in
+    let content = other-bytes (o .kind) (o .maximum) (o .content) b (a .content) n q in
     record { allowed = allowed-by _ (search (a, l, content)); number = refl; maximum = refl }
 
 -- counters ------------------------------------------------------------------------------------------------------------------
@@ -60,6 +65,7 @@ content-fits b o h l n =
 counter-sizes : (k : Kind) (m : ℕ) (b : List ℕ) → data-allowed k m b ≡ true → is-counter k ≡ true → (m ≡ counter-size) × (length b ≡ counter-size)
 unfolding data-allowed is-counter is kind-number
 counter-sizes Data m b h c = absurd (false≢true c)
+counter-sizes Queue m b h c = absurd (false≢true c)
 counter-sizes (Counter d) m b h c = (eqb-true m counter-size (and-left _ _ h), eqb-true (length b) counter-size (and-right (eqb m counter-size) _ h))
 counter-sizes LifeCycle m b h c = absurd (false≢true h)
 counter-sizes Status m b h c = absurd (false≢true h)
@@ -77,6 +83,7 @@ unfolding is-counter of-session is kind-number
 counter-stored Data h = refl
 counter-stored (Counter Up) h = refl
 counter-stored (Counter Down) h = refl
+counter-stored Queue h = absurd (false≢true h)
 counter-stored LifeCycle h = absurd (false≢true h)
 counter-stored Status h = absurd (false≢true h)
 
@@ -93,6 +100,78 @@ module _ (k : Kind) (h : is (Counter Up) k ≡ true) where
 pub count-length : (d : Direction) (step : ℕ) (b : List ℕ) → length b ≡ counter-size → length (after-count d step b) ≡ counter-size
 unfolding after-count big-endian-4
 count-length d step b h = simp length-drop (omega arith)
+
+-- queues ---------------------------------------------------------------------------------------------------------------------
+
+-- what a record of a queue must have
+queue-there : (k : Kind) (m : ℕ) (b : List ℕ) → data-allowed k m b ≡ true → is Queue k ≡ true → is-some (queue b) ≡ true
+unfolding data-allowed is kind-number
+queue-there Data m b h q = absurd (false≢true q)
+queue-there (Counter Up) m b h q = absurd (false≢true q)
+queue-there (Counter Down) m b h q = absurd (false≢true q)
+queue-there Queue m b h q = h
+queue-there LifeCycle m b h q = absurd (false≢true q)
+queue-there Status m b h q = absurd (false≢true q)
+
+-- a queue is no object of the session, and no counter
+pub queue-stored : (k : Kind) → is Queue k ≡ true → of-session k ≡ false
+unfolding of-session is kind-number
+queue-stored Data h = refl
+queue-stored (Counter Up) h = refl
+queue-stored (Counter Down) h = refl
+queue-stored Queue h = refl
+queue-stored LifeCycle h = absurd (false≢true h)
+queue-stored Status h = absurd (false≢true h)
+
+pub queue-not-counter : (k : Kind) → is Queue k ≡ true → is-counter k ≡ false
+unfolding is-counter is kind-number
+queue-not-counter Data h = refl
+queue-not-counter (Counter Up) h = absurd (false≢true h)
+queue-not-counter (Counter Down) h = absurd (false≢true h)
+queue-not-counter Queue h = refl
+queue-not-counter LifeCycle h = refl
+queue-not-counter Status h = refl
+
+module _ (o : Object) (h : object-allowed o ≡ true) (k : is Queue (o .kind) ≡ true) where
+  pub queue-sound : is-some (queue (o .content)) ≡ true
+  queue-sound = queue-there (o .kind) (o .maximum) (o .content) (allowed o h .content) k
+
+  pub queue-is-allowed : queue-allowed (queue-in (o .content)) ≡ true
+  queue-is-allowed = sound-layout (o .content) queue-sound .1
+
+  pub queue-used : queue-size (queue-in (o .content)) ≡ used o
+  queue-used = sym (queue-length (queue-in (o .content))) ∙ ap length (sound-layout (o .content) queue-sound .0)
+
+  -- another queue in its place
+  queue-fits : (q : FareQueue) → queue-allowed q ≡ true → queue-size q ≤ o .maximum → Fitting o (with-content (queue-bytes q) o)
+  queue-fits q ok l =
+      content-fits (queue-bytes q) o h (omega (arith, queue-length q)) (λ c. absurd (false≢true (sym (queue-not-counter (o .kind) k) ∙ c)))
+      (λ r. ap is-some (queue-of-bytes q ok))
+
+  pub append-fits : (b : List ℕ) → body-allowed b ≡ true → used o + fare-head + length b ≤ o .maximum → queue-in (o .content) .next < 0xFFFFFFFF →
+      Fitting o (with-content (queue-bytes (appended b (queue-in (o .content)))) o)
+  append-fits b ok l n =
+      let q = queue-in (o .content) in
+      queue-fits (appended b q) (appended-allowed b q queue-is-allowed ok n) (omega (arith, l, appended-size b q, queue-used))
+
+  pub acknowledge-fits : (n : ℕ) → Fitting o (with-content (queue-bytes (acknowledged n (queue-in (o .content)))) o)
+  acknowledge-fits n =
+      let q = queue-in (o .content) in
+      queue-fits (acknowledged n q) (acknowledged-allowed n q queue-is-allowed) (omega (arith, acknowledged-size n q, queue-used, allowed o h .used-fits))
+
+  -- a next number that is not FFFFFFFF is below it
+  pub next-below : eqb (queue-in (o .content) .next) 0xFFFFFFFF ≡ false → queue-in (o .content) .next < 0xFFFFFFFF
+  next-below e =
+      let small = queue-facts (queue-in (o .content)) queue-is-allowed .next-fits in
+      omega (arith, eqb-false (queue-in (o .content) .next) 0xFFFFFFFF e)
+
+-- a counter that has counted
+count-fits : (d : Direction) (step : ℕ) (o : Object) → object-allowed o ≡ true → is-counter (o .kind) ≡ true →
+    Fitting o (with-content (after-count d step (o .content)) o)
+count-fits d step o h counter =
+    let long = count-length d step (o .content) (counter-content o h counter) in
+    content-fits _ o h (omega (arith, long, counter-maximum o h counter)) (λ r. long)
+    (λ q. absurd (false≢true (sym (queue-not-counter (o .kind) q) ∙ counter)))
 
 -- metadata -------------------------------------------------------------------------------------------------------------------
 
@@ -155,33 +234,44 @@ write-within o k n h =
     record { within = omega (arith, size q); whole = λ r. (omega arith, size q) })
     (λ q e. record { within = leb-true (k + n) (o .maximum) e; whole = λ r. absurd (false≢true (sym q ∙ r)) })
 
-written : (old c : List ℕ) (o : Object) (see : Seen) (new : Object) → object-allowed o ≡ true → length old ≤ o .maximum →
+written : (old c : List ℕ) (o : Object) (see : Seen) (new : Object) → object-allowed o ≡ true → length old ≤ o .maximum → is Queue (o .kind) ≡ false →
     writing old c o see .verdict ≡ Accepted → writing old c o see .stores ≡ some new → Fitting o new
 unfolding writing
-written old c o see new h l v e =
+written old c o see new h l plain v e =
     let w = write-within o (offset c) (length (sent-data c)) h (not-false _ (passed _ _ _ v .0)) in
     let long = put-used (offset c) (sent-data c) old in
     rw (not-chosen (of-session (o .kind)) _ new e .1) at
-    (content-fits (put-at (offset c) (sent-data c) old) o h (omega (arith, w .within)) (λ q. omega (arith, w .whole q)))
+    (content-fits (put-at (offset c) (sent-data c) old) o h (omega (arith, w .within)) (λ q. omega (arith, w .whole q))
+    (λ q. absurd (false≢true (sym plain ∙ q))))
 
--- what an accepted action stores fits
+-- what an accepted action stores fits: of an append with a body that is allowed
 pub operation-fitting : (a : Action) (c : List ℕ) (o : Object) (see : Seen) (new : Object) → object-allowed o ≡ true →
-    operation a c o see .verdict ≡ Accepted → operation a c o see .stores ≡ some new → Fitting o new
-unfolding operation
-operation-fitting GetData c o see new h v e = let z : _≡_ {A = ℕ} 0 1 = cc in absurd (omega arith)
-operation-fitting GetMetadata c o see new h v e = let z : _≡_ {A = ℕ} 0 1 = cc in absurd (omega arith)
-operation-fitting Write c o see new h v e = written (o .content) c o see new h (allowed o h .used-fits) v e
-operation-fitting EraseAndWrite c o see new h v e = written [] c o see new h (omega arith) v e
-operation-fitting SetMetadata c o see new h v e =
+    (a ≡ Append → body-allowed (sent-body c) ≡ true) → granted a o see ≡ true → operation a c o see .verdict ≡ Accepted →
+    operation a c o see .stores ≡ some new → Fitting o new
+unfolding operation access asked
+operation-fitting GetData c o see new h b g v e = let z : _≡_ {A = ℕ} 0 1 = cc in absurd (omega arith)
+operation-fitting GetMetadata c o see new h b g v e = let z : _≡_ {A = ℕ} 0 1 = cc in absurd (omega arith)
+operation-fitting Write c o see new h b g v e =
+    written (o .content) c o see new h (allowed o h .used-fits) (not-never (is Queue (o .kind)) see (o .lcso) (o .change) g) v e
+operation-fitting EraseAndWrite c o see new h b g v e =
+    written [] c o see new h (omega arith) (not-never (is Queue (o .kind)) see (o .lcso) (o .change) g) v e
+operation-fitting SetMetadata c o see new h b g v e =
     let fs = sent-fields (sent-metadata c) in
     let q : with-fields fs o ≡ new = cc in
     rw q at (fields-fit (o .lcso) o fs h (unfold metadata-allowed in at-place _ (not-false _ (passed _ _ _ v .0)) 3))
-operation-fitting Count c o see new h v e =
-    let b = after-count (direction (o .kind)) (step-byte c) (o .content) in
-    let q : with-content b o ≡ new = cc in
-    let counter : is-counter (o .kind) ≡ true = not-false _ (passed _ _ _ v .0) in
-    let long = count-length (direction (o .kind)) (step-byte c) (o .content) (counter-content o h counter) in
-    rw q at (content-fits b o h (omega (arith, long, counter-maximum o h counter)) (λ r. long))
+operation-fitting Count c o see new h b g v e =
+    let bytes = after-count (direction (o .kind)) (step-byte c) (o .content) in
+    let q : with-content bytes o ≡ new = cc in
+    rw q at (count-fits (direction (o .kind)) (step-byte c) o h (not-false _ (passed _ _ _ v .0)))
+operation-fitting Append c o see new h b g v e =
+    let q : with-content (queue-bytes (appended (sent-body c) (queue-in (o .content)))) o ≡ new = cc in
+    let (kind, v11) = passed _ _ _ v in
+    let (room, v13) = passed _ _ _ v11 in
+    let k = not-false _ kind in
+    rw q at (append-fits o h k (sent-body c) (b refl) (ltb-false (o .maximum) _ room) (next-below o h k (passed _ _ _ v13 .0)))
+operation-fitting Acknowledge c o see new h b g v e =
+    let q : with-content (queue-bytes (acknowledged (sent-number c) (queue-in (o .content)))) o ≡ new = cc in
+    rw q at (acknowledge-fits o h (not-false _ (passed _ _ _ v .0)) (sent-number c))
 
 -- and nothing is stored in the place of an object of the session
 pub operation-outside : (a : Action) (c : List ℕ) (o : Object) (see : Seen) (new : Object) → granted a o see ≡ true →
@@ -193,6 +283,8 @@ operation-outside Write c o see new g v e = not-chosen (of-session (o .kind)) _ 
 operation-outside EraseAndWrite c o see new g v e = not-chosen (of-session (o .kind)) _ new e .0
 operation-outside SetMetadata c o see new g v e = not-never (of-session (o .kind)) see (o .lcso) (o .change) g
 operation-outside Count c o see new g v e = counter-stored (o .kind) (not-false _ (passed _ _ _ v .0))
+operation-outside Append c o see new g v e = queue-stored (o .kind) (not-false _ (passed _ _ _ v .0))
+operation-outside Acknowledge c o see new g v e = queue-stored (o .kind) (not-false _ (passed _ _ _ v .0))
 
 -- counters used up -----------------------------------------------------------------------------------------------------------
 
@@ -201,8 +293,5 @@ pub used-up-fits : (ns : List ℕ) (o : Object) → object-allowed o ≡ true �
 unfolding used-up one-up
 used-up-fits ns o h =
     if-by (Fitting o) (is (Counter Up) (o .kind) && among ns (o .number)) (one-up o) o
-    (λ t.
-    let counter = up-is-counter (o .kind) (and-left _ _ t) in
-    let long = count-length Up 1 (o .content) (counter-content o h counter) in
-    content-fits _ o h (omega (arith, long, counter-maximum o h counter)) (λ r. long))
+    (λ t. count-fits Up 1 o h (up-is-counter (o .kind) (and-left _ _ t)))
     (λ t. record { allowed = h; number = refl; maximum = refl })

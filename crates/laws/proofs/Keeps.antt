@@ -9,13 +9,15 @@ use borrow.Author.Tests.{ltb-true, ltb-false}
 use lib.Dec.{ltb}
 use lib.ListN.{length, length-append, length-drop, length-map}
 use Rattle.rules.specs.declared.Session.{Session}
+use Rattle.rules.specs.declared.Action.the-variants.{Append}
 use Rattle.rules.specs.declared.Row.{Row}
 use Rattle.rules.specs.declared.Row.the-variants.{OnObject, OpenApplication, CloseApplication, Unknown}
 use Rattle.rules.specs.declared.Refusal.{Refusal}
 use Rattle.rules.specs.declared.Verdict.{Verdict}
 use Rattle.rules.specs.declared.Verdict.the-variants.{Refused, Accepted}
 use Rattle.rules.specs.Basic.{is-some, or-else}
-use Rattle.rules.specs.Command.{row, object-number}
+use Rattle.rules.specs.Command.{row, object-number, sent-body}
+use Rattle.rules.specs.Queue.{body-allowed}
 use Rattle.rules.specs.Response.{done-response, refused-response, put-in-front}
 use Rattle.rules.specs.Object.{Object, object-allowed, all-allowed-with, all-allowed}
 use Rattle.rules.specs.Layout.{size-with, size, objects-allowed-with, objects-allowed, unpack, replaced}
@@ -28,6 +30,7 @@ use Rattle.laws.proofs.Facts.{numbers, all-allowed-facts}
 use Rattle.laws.proofs.Inverse.{unpack-pack, pack-unpack}
 use Rattle.laws.proofs.Places.{Stands, replaced-at, pack-length}
 use Rattle.laws.proofs.Verdicts.{answer-fits, nine-passed, early-passed, verdict-passed}
+use Rattle.laws.proofs.Rows.{body-sent}
 use Rattle.laws.proofs.Named.{in-store, found-there}
 use Rattle.laws.proofs.Fitting.{Fitting, operation-fitting, operation-outside, used-up-fits}
 
@@ -96,41 +99,49 @@ pub record StoredFits (n : ℕ) (os : List Object) (new : Object) : Type 0 where
   pub stands : Stands n os object
   pub fits : Fitting object new
 
--- so does what an accepted ruling stores
-pub ruling-fits : (r : Row) (c : List ℕ) (os : List Object) (s : Session) (room : ℕ) (new : Object) → objects-allowed os ≡ true →
+-- so does what a ruling stores that is accepted, of an append with a body that is allowed
+row-fits : (r : Row) (c : List ℕ) (os : List Object) (s : Session) (room : ℕ) (new : Object) → objects-allowed os ≡ true →
+    (r ≡ OnObject Append → body-allowed (sent-body c) ≡ true) →
     late (ruling r c (seen os s)) room ≡ Accepted → ruling r c (seen os s) .does .stores ≡ some new → StoredFits (object-number c) os new
 unfolding ruling ruling-of setting-session
-ruling-fits (OnObject a) c os s room new h v e =
+row-fits (OnObject a) c os s room new h b v e =
     let p = nine-passed a c (named (object-number c) (seen os s)) (seen os s) room v in
     let o = p .object in
     let stores : operation a c o (seen os s) .stores ≡ some new = unfold ruling-on in (rw (p .there) at e) in
     let there = in-store (object-number c) (seen os s) o (operation-outside a c o (seen os s) new (p .late .granted) (p .late .own) stores) (p .there) in
     let f = found-there (object-number c) os o h (unfold seen in there) in
-    record { object = o; stands = f .stands; fits = operation-fitting a c o (seen os s) new (f .object-ok) (p .late .own) stores }
-ruling-fits OpenApplication c os s room new h v e = let z : _≡_ {A = ℕ} 0 1 = cc in absurd (omega arith)
-ruling-fits CloseApplication c os s room new h v e = let z : _≡_ {A = ℕ} 0 1 = cc in absurd (omega arith)
-ruling-fits Unknown c os s room new h v e = let z : _≡_ {A = ℕ} 0 1 = cc in absurd (omega arith)
+    let fits = operation-fitting a c o (seen os s) new (f .object-ok) (λ q. b (ap OnObject q)) (p .late .granted) (p .late .own) stores in
+    record { object = o; stands = f .stands; fits = fits }
+row-fits OpenApplication c os s room new h b v e = let z : _≡_ {A = ℕ} 0 1 = cc in absurd (omega arith)
+row-fits CloseApplication c os s room new h b v e = let z : _≡_ {A = ℕ} 0 1 = cc in absurd (omega arith)
+row-fits Unknown c os s room new h b v e = let z : _≡_ {A = ℕ} 0 1 = cc in absurd (omega arith)
 
--- so the objects with it in its place are allowed, and as large
-pub replaced-kept : (r : Row) (c : List ℕ) (os : List Object) (s : Session) (room : ℕ) → objects-allowed os ≡ true →
-    late (ruling r c (seen os s)) room ≡ Accepted → StillAllowed os (replacing (ruling r c (seen os s) .does .stores) os)
-unfolding replacing
-replaced-kept r c os s room h v =
-    elim (ruling r c (seen os s) .does .stores) as (λ m. ruling r c (seen os s) .does .stores ≡ m → StillAllowed os (replacing m os)) [
-      | none ↦ λ e. record { allowed = h; size = refl }
-      | some new ↦ λ e.
-          let f = ruling-fits r c os s room new h v e in
-          replaced-fits (object-number c) os (f .object) new h (f .stands) (f .fits)
-    ] refl
+-- a command that the steps 2 to 13 accept, with these objects
+module _ (c : List ℕ) (os : List Object) (s : Session) (room : ℕ) (h : objects-allowed os ≡ true) (v : verdict true c room (seen os s) ≡ Accepted) where
+  pub ruling-fits : (new : Object) → ruling (row c) c (seen os s) .does .stores ≡ some new → StoredFits (object-number c) os new
+  unfolding seen
+  ruling-fits new e =
+      let (early, late) = verdict-passed true c room (seen os s) v in
+      row-fits (row c) c os s room new h (body-sent true c s early) late e
 
--- and so are those after the command
-pub ruling-kept : (r : Row) (c : List ℕ) (os : List Object) (s : Session) (room : ℕ) → objects-allowed os ≡ true →
-    late (ruling r c (seen os s)) room ≡ Accepted → StillAllowed os (objects-after (ruling r c (seen os s)) os)
-unfolding objects-after all-used-up
-ruling-kept r c os s room h v =
-    let changed = replaced-kept r c os s room h v in
-    let stepped = each-fits (used-up (ruling r c (seen os s) .counters)) (used-up-fits _) _ (changed .allowed) in
-    record { allowed = stepped .allowed; size = stepped .size ∙ changed .size }
+  -- so the objects with it in its place are allowed, and as large
+  pub replaced-kept : StillAllowed os (replacing (ruling (row c) c (seen os s) .does .stores) os)
+  unfolding replacing
+  replaced-kept =
+      elim (ruling (row c) c (seen os s) .does .stores) as (λ m. ruling (row c) c (seen os s) .does .stores ≡ m → StillAllowed os (replacing m os)) [
+        | none ↦ λ e. record { allowed = h; size = refl }
+        | some new ↦ λ e.
+            let f = ruling-fits new e in
+            replaced-fits (object-number c) os (f .object) new h (f .stands) (f .fits)
+      ] refl
+
+  -- and so are those after the command
+  pub ruling-kept : StillAllowed os (objects-after (ruling (row c) c (seen os s)) os)
+  unfolding objects-after all-used-up
+  ruling-kept =
+      let changed = replaced-kept in
+      let stepped = each-fits (used-up (ruling (row c) c (seen os s) .counters)) (used-up-fits _) _ (changed .allowed) in
+      record { allowed = stepped .allowed; size = stepped .size ∙ changed .size }
 
 -- one command -----------------------------------------------------------------------------------------------------------
 
@@ -174,7 +185,7 @@ step-sound c room store os s u =
     step-by (λ a. Sound store (a .store)) c room store s (λ l. here) (λ l r e. here)
     (λ l e.
     let (packed, ok) = pack-unpack store os u in
-    let k = ruling-kept (row c) c os (flushed c s) (length room) ok (verdict-passed true c (length room) _ (rw u at e) .1) in
+    let k = ruling-kept c os (flushed c s) (length room) ok (rw u at e) in
     let long = pack-length _ (all-allowed-facts _ (k .allowed) .each) ∙ k .size ∙ sym (pack-length os (all-allowed-facts os ok .each)) ∙ ap length packed in
     rw u (record { objects = _; reads = unpack-pack _ (k .allowed); long = long }))
 

@@ -4,6 +4,8 @@ pub mod Calls
 pub mod Expressions
 pub mod Facts
 pub mod Inverse
+pub mod Queues
+pub mod QueueChanges
 pub mod Fields
 pub mod Places
 pub mod Puts

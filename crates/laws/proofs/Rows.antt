@@ -5,19 +5,23 @@ use mathlib.Core.List.{List, [], _∷_}
 use mathlib.Core.Path.{_≡_, refl, sym, ap, _∙_}
 use native.Mathlib.Omega.{arith}
 use borrow.Author.Tests.{eqb-true, leb-true, ltb-false, not-false}
-use lib.Dec.{eqb, ltb}
+use lib.Dec.{eqb, ltb, leb}
 use lib.ListN.{length, drop, length-drop}
 use Rattle.mixing.specs.Runs.{All}
 use Rattle.rules.specs.declared.Session.{Session}
 use Rattle.rules.specs.declared.Action.{Action}
+use Rattle.rules.specs.declared.Action.the-variants.{GetData, GetMetadata, Write, EraseAndWrite, SetMetadata, Count, Append, Acknowledge}
+use Rattle.rules.specs.declared.Sizes.{Sizes}
 use Rattle.rules.specs.declared.Row.{Row}
 use Rattle.rules.specs.declared.Row.the-variants.{OnObject, OpenApplication, CloseApplication, Unknown}
 use Rattle.rules.specs.declared.Verdict.the-variants.{Accepted}
 use Rattle.rules.specs.Basic.{among}
-use Rattle.rules.specs.Command.{Line, size-right, anything, table-line, command-table, known-cmd, no-line, line-in, line-of, cmd, param, row, is-unknown, in-length, in-data}
+use Rattle.rules.specs.Command.{Line, between, size-right, anything, table-line, command-table, known-cmd, no-line, line-in, line-of, cmd, param, row, is-unknown, in-length, in-data, sent-body}
+use Rattle.rules.specs.Queue.{body-allowed}
 use Rattle.rules.specs.Refusals.{ill-sized, unknown-cmd, unknown-param, wrong-length, wrong-content, early}
-use Rattle.laws.proofs.Tests.{if-by, and-left, or-left, or-right}
+use Rattle.laws.proofs.Tests.{if-by, and-left, and-right, or-left, or-right}
 use Rattle.laws.proofs.Verdicts.{early-passed}
+use Rattle.laws.proofs.QueueChanges.{body-of-size}
 
 -- lines -----------------------------------------------------------------------------------------------------------------
 
@@ -105,3 +109,39 @@ in-full sound c s h =
     let p = early-passed sound c s h in
     let n = leb-true (line-of c .sizes .least) (in-length c) (and-left _ _ (not-false _ (p .step-7))) in
     omega (arith, n, sized c (p .step-3))
+
+-- and no more than its line takes
+pub in-limit : (sound : Bool) (c : List ℕ) (s : Session) → early sound c s ≡ Accepted → length c ≤ line-of c .sizes .most + 4
+unfolding wrong-length size-right
+in-limit sound c s h =
+    let p = early-passed sound c s h in
+    let n = leb-true (in-length c) (line-of c .sizes .most) (and-right (leb (line-of c .sizes .least) (in-length c)) _ (not-false _ (p .step-7))) in
+    omega (arith, n, sized c (p .step-3))
+
+-- so the body of an append that is accepted has 1 to 200 bytes
+abbrev AppendSizes : Row → Sizes → Type 0
+AppendSizes (OnObject GetData) z = Unit
+AppendSizes (OnObject GetMetadata) z = Unit
+AppendSizes (OnObject Write) z = Unit
+AppendSizes (OnObject EraseAndWrite) z = Unit
+AppendSizes (OnObject SetMetadata) z = Unit
+AppendSizes (OnObject Count) z = Unit
+AppendSizes (OnObject Append) z = z ≡ between 3 202
+AppendSizes (OnObject Acknowledge) z = Unit
+AppendSizes OpenApplication z = Unit
+AppendSizes CloseApplication z = Unit
+AppendSizes Unknown z = Unit
+
+append-sizes : (c : List ℕ) → AppendSizes (row c) (line-of c .sizes)
+unfolding row line-of command-table table-line no-line
+append-sizes c = every-line (λ l. AppendSizes (l .row) (l .sizes)) command-table (cmd c) (param c) (search) tt
+
+pub body-sent : (sound : Bool) (c : List ℕ) (s : Session) → early sound c s ≡ Accepted → row c ≡ OnObject Append → body-allowed (sent-body c) ≡ true
+unfolding sent-body
+body-sent sound c s h r =
+    let sizes : line-of c .sizes ≡ between 3 202 = rw r at (append-sizes c) in
+    let least = ap (λ (z : Sizes). z .least) sizes in
+    let most = ap (λ (z : Sizes). z .most) sizes in
+    let long = in-full sound c s h in
+    let short = in-limit sound c s h in
+    body-of-size (drop 6 c) (omega (arith, length-drop 6 c)) (omega (arith, length-drop 6 c))

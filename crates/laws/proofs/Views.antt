@@ -8,7 +8,7 @@ use mathlib.Core.Path.{_≡_, refl}
 use lib.ListN.{length}
 use Rattle.rules.specs.declared.Session.{Session}
 use Rattle.rules.specs.declared.Action.{Action}
-use Rattle.rules.specs.declared.Action.the-variants.{GetData, GetMetadata, Write, EraseAndWrite, SetMetadata, Count}
+use Rattle.rules.specs.declared.Action.the-variants.{GetData, GetMetadata, Write, EraseAndWrite, SetMetadata, Count, Append, Acknowledge}
 use Rattle.rules.specs.declared.Refusal.the-variants.{AccessDenied}
 use Rattle.rules.specs.Object.{Object, in-session}
 use Rattle.rules.specs.Chain.{_refused_or_, _and-then_}
@@ -39,6 +39,8 @@ operation-alike Write c o see other = search
 operation-alike EraseAndWrite c o see other = search
 operation-alike SetMetadata c o see other = search
 operation-alike Count c o see other = search
+operation-alike Append c o see other = search
+operation-alike Acknowledge c o see other = search
 
 -- rulings: what they say, what they do and what they use up
 pub record RulingAlike (r q : Ruling) : Type 0 where
@@ -71,6 +73,8 @@ session-left Write c o see h = state-outside (o .number) _ (see .session) h
 session-left EraseAndWrite c o see h = state-outside (o .number) _ (see .session) h
 session-left SetMetadata c o see h = refl
 session-left Count c o see h = refl
+session-left Append c o see h = refl
+session-left Acknowledge c o see h = refl
 
 pub ruling-left : (a : Action) (c : List ℕ) (m : Option Object) (see : Seen) → ((o : Object) → m ≡ some o → in-session (o .number) ≡ false) →
     ruling-on a c m see .does .session ≡ see .session

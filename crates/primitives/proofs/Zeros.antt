@@ -2,7 +2,7 @@
 use Prim.Native.Nat.{ℕ, zero, suc, _+_, _≤_, _<_}
 use mathlib.Core.Path.{_≡_, refl, _∙_}
 use mathlib.Core.Bool.{Bool, true, _&&_, and-true}
-use mathlib.Core.List.{List}
+use mathlib.Core.List.{List, [], _∷_, _++_}
 use native.Mathlib.Omega.{arith}
 use native.Mathlib.Numerals.{add-one}
 use borrow.Author.Tests.{ne-eqb}
@@ -37,3 +37,8 @@ zeros-are n = rw (length-replicate {A = ℕ} n 0) (same-refl (zeros n))
 pub are-zeros : (b : List ℕ) → all-zero b ≡ true → b ≡ zeros (length b)
 unfolding all-zero
 are-zeros b h = same-eq b (zeros (length b)) h
+
+pub zeros-joined : (x y : List ℕ) → all-zero (x ++ y) ≡ (all-zero x && all-zero y)
+unfolding all-zero same
+zeros-joined [] y = refl
+zeros-joined (a ∷ x) y = rw (zeros-joined x y, and-assoc)

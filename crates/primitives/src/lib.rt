@@ -4,7 +4,7 @@ ghost use mathlib.Core.List.{_++_};
 ghost use mathlib.Core.Bool.{_&&_, _||_};
 ghost use Prim.Native.Nat.{_+_, _<_, _≤_, min, max};
 ghost use lib.ListN.{length, drop};
-ghost use Rattle.rules.specs.Basic.{little-endian-at, big-endian-at, big-endian-4, big-endian-4-at, zeros};
+ghost use Rattle.rules.specs.Basic.{little-endian-at, big-endian-at, big-endian-4, big-endian-4-at, little-endian-4, little-endian-4-at, zeros};
 ghost use Rattle.primitives.specs.Bytes.{over, all-zero};
 
 // The number in two bytes, least significant first.
@@ -35,6 +35,16 @@ pub fn big_endian_4_at(s: &[u8], at: usize) -> u32
     let high = big_endian_at(s, at) as u32;
     let low = big_endian_at(s, at + 2) as u32;
     0x10000 * high + low
+}
+
+// The number in four bytes, least significant first.
+pub fn little_endian_4_at(s: &[u8], at: usize) -> u32
+    requires { ⌜ at + 3 < length (now s) ⌝ }
+    ensures { λ r. ⌜ r ≡ little-endian-4-at at (now (s .entry)) ⌝ }
+{
+    let low = little_endian_at(s, at) as u32;
+    let high = little_endian_at(s, at + 2) as u32;
+    low + 0x10000 * high
 }
 
 pub fn max(a: usize, b: usize) -> usize
@@ -88,6 +98,22 @@ pub fn put_big_endian_4(dst: &mut [u8], at: usize, n: u32)
         (high % 256) as u8,
         (low / 256) as u8,
         (low % 256) as u8,
+    ];
+    put(dst, at, &bytes);
+}
+
+// Puts a number in four bytes, least significant first.
+pub fn put_little_endian_4(dst: &mut [u8], at: usize, n: u32)
+    requires { ⌜ at + 3 < length (now dst) ⌝ }
+    ensures { λ _. ⌜ now (dst .exit) ≡ over at (little-endian-4 n) (now (dst .entry)) ⌝ }
+{
+    let low = n % 0x10000;
+    let high = n / 0x10000;
+    let bytes = [
+        (low % 256) as u8,
+        (low / 256) as u8,
+        (high % 256) as u8,
+        (high / 256) as u8,
     ];
     put(dst, at, &bytes);
 }

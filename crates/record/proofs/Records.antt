@@ -6,14 +6,12 @@ use mathlib.Core.List.{List, [], _∷_, _++_, append-nil}
 use borrow.Author.Tests.{eq-eqb, ne-eqb, eqb-true, le-leb, leb-true, not-true, not-false}
 use native.Mathlib.Omega.{arith}
 use native.Mathlib.Nat.{add-sub-cancel-left}
-use mir.Val
-use mir.Syntax.{w8}
 use lib.Dec.{eqb}
 use lib.ListN.{length, getD, take, drop, length-drop, take-append-drop}
 use lib.Seq.{take-at, drop-append-seam, drop-drop, length-take-le}
 use borrow.Rule.Slice.PartAt.{part-to-end}
 use Rattle.rules.specs.declared.Kind.{Kind}
-use Rattle.rules.specs.declared.Kind.the-variants.{Counter}
+use Rattle.rules.specs.declared.Kind.the-variants.{Counter, Queue}
 use Rattle.rules.specs.declared.Direction.the-variants.{Up, Down}
 use Rattle.rules.specs.declared.Slot.{Slot}
 use Rattle.rules.specs.declared.Slot.the-variants.{Change, Read, Execute}
@@ -29,12 +27,9 @@ use Rattle.primitives.specs.Bytes.{all-zero}
 use Rattle.primitives.proofs.Zeros.{zeros-are, are-zeros}
 use Rattle.expression.proofs.Tests.{same-test, calls}
 use Rattle.expression.proofs.Conditions.{two}
+use Rattle.expression.proofs.Numbers.{Bytes, two-back}
 use Rattle.record.specs.Records.{is-slot, part, head-allowed, kind-allowed, slots-allowed, body-allowed, is-record}
 use Rattle.record.proofs.Standing.{Slotted, size-here, kind-here, used-here, slot-here, data-here}
-
--- every entry is a byte
-abbrev pub Bytes : List ℕ → Type 0
-Bytes b = (i : ℕ) → mir.Val.Fits w8 (getD b i 0)
 
 -- the tests of a record's first bytes, by their names
 record Head (b : List ℕ) : Type 0 where
@@ -87,14 +82,6 @@ module _ (b : List ℕ) (bytes : Bytes b) (h : Head b) (h′ : body-allowed b �
       let content = rw add-sub-cancel-left at (and-right (eqb (kind-number (read-kind (little-endian-at 2 b))) (little-endian-at 2 b)) _ (at-place _ h′ 0)) in
       allowed-by _ (search (small, room, fits, h, content, held Change .0, held Read .0, held Execute .0))
 
-  -- the two bytes of a number before what follows
-  two-back : (k n : ℕ) → k + 1 < length b → little-endian-at k b ≡ n → n % 256 ∷ n / 256 ∷ drop (k + 2) b ≡ drop k b
-  unfolding little-endian-at
-  two-back k n l e =
-      let low : n % 256 ≡ getD b k 0 = omega (arith, bytes k .fits) in
-      let high : n / 256 ≡ getD b (k + 1) 0 = omega (arith, bytes k .fits) in
-      rw (low, high) (sym (two b k l))
-
   record-back : record-bytes (read-record b) ≡ b
   unfolding record-bytes-with read-record-with slot-at-with body-allowed kind-allowed
   record-back =
@@ -107,9 +94,9 @@ module _ (b : List ℕ) (bytes : Bytes b) (h : Head b) (h′ : body-allowed b �
       let content : take u (drop head-size b) ++ drop (head-size + u) b ≡ drop head-size b = rw (← drop-drop u head-size b) (take-append-drop u _) in
       let state : getD b 10 0 ∷ 0 ∷ drop 12 b ≡ drop 10 b = ap (λ x. getD b 10 0 ∷ x ∷ drop 12 b) (sym (h .zero)) ∙ sym (two b 10 (omega arith)) in
       let size : little-endian-at 0 b ≡ head-size + little-endian-at 6 b = omega (arith, h .length-told, h .maximum-told) in
+      let back = two-back b bytes in
       rw (in-use, kind, ← left, ← tail, append-nil, content, held Execute .1, held Read .1, held Change .1, state)
-      (rw (two-back 8 _ (omega arith) refl, two-back 6 _ (omega arith) refl, two-back 4 _ (omega arith) refl, two-back 2 _ (omega arith) refl)
-      (two-back 0 _ (omega arith) size))
+      (rw (back 8 _ (omega arith) refl, back 6 _ (omega arith) refl, back 4 _ (omega arith) refl, back 2 _ (omega arith) refl) (back 0 _ (omega arith) size))
 
 -- the record of an allowed object passes ----------------------------------------------------------------------------------
 
@@ -221,11 +208,11 @@ unfolding kind-allowed
 read-as k n m b r e f = rw (← e) f
 
 -- and one of no kind
-pub read-none : (n m : ℕ) (b : List ℕ) → (n ≡ 1 → ⊥) → (n ≡ 2 → ⊥) → (n ≡ 4 → ⊥) → false ≡ kind-allowed n m b
+pub read-none : (n m : ℕ) (b : List ℕ) → (n ≡ 1 → ⊥) → (n ≡ 2 → ⊥) → (n ≡ 3 → ⊥) → (n ≡ 4 → ⊥) → false ≡ kind-allowed n m b
 unfolding kind-allowed read-kind kind-number
-read-none n m b d u w = rw (ne-eqb n 1 d, ne-eqb n 2 u, ne-eqb 4 n (λ e. w (sym e)))
+read-none n m b d u q w = rw (ne-eqb n 1 d, ne-eqb n 2 u, ne-eqb n 3 q, ne-eqb 4 n (λ e. w (sym e)))
 
--- `is_counter`, `is_up_counter`, `direction`: by the number of the kind
+-- `is_counter`, `is_up_counter`, `is_queue`, `direction`: by the number of the kind
 module _ (k : Kind) (n : ℕ) (e : n ≡ kind-number k) where
   is-by : (l : Kind) → is l k ≡ eqb n (kind-number l)
   unfolding is
@@ -240,6 +227,10 @@ module _ (k : Kind) (n : ℕ) (e : n ≡ kind-number k) where
   pub up-counter-by : (r : Bool) → r ≡ eqb n 2 → r ≡ is (Counter Up) k
   unfolding kind-number
   up-counter-by r f = rw (is-by (Counter Up)) f
+
+  pub queue-by : (r : Bool) → r ≡ eqb n 3 → r ≡ is Queue k
+  unfolding kind-number
+  queue-by r f = rw (is-by Queue) f
 
   pub down-by : n ≡ 4 → Down ≡ direction k
   unfolding direction kind-number

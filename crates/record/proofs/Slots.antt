@@ -1,7 +1,7 @@
 -- One slot: the tests of its check say whether the bytes are the slot of an allowed expression, and what is put is a slot.
 use Prim.Native.Nat.{ℕ, zero, suc, _+_, _-_, _≤_, _<_}
 use mathlib.Core.Path.{_≡_, refl, sym, ap, _∙_}
-use mathlib.Core.Bool.{Bool, true, false, not, _&&_}
+use mathlib.Core.Bool.{Bool, true, false, not, _&&_, and-true, and-false}
 use mathlib.Core.List.{List, [], _∷_, _++_}
 use borrow.Author.Tests.{le-leb, lt-leb, leb-true, not-true, not-false}
 use native.Mathlib.Omega.{arith}
@@ -9,14 +9,14 @@ use native.Mathlib.Numerals.{add-one}
 use borrow.Rule.Slice.PartAt.{part-to-end}
 use lib.Dec.{leb}
 use lib.ListN.{length, getD, take, drop, length-drop, length-replicate, take-append-drop}
-use lib.Seq.{take-at, drop-at, length-take-le}
+use lib.Seq.{take-at, drop-at, drop-drop, take-add, length-take-le}
 use Rattle.rules.specs.Basic.{same, zeros, is-some}
 use Rattle.rules.specs.Expression.{expression, expression-bytes, expression-allowed, condition-allowed}
 use Rattle.rules.specs.Layout.{slot-size, slot-of, slot, read-slot, slot-of-with}
 use Rattle.laws.proofs.Tests.{and-left, and-right, same-refl, same-eq}
 use Rattle.laws.proofs.Expressions.{expression-length, expression-back}
 use Rattle.primitives.specs.Bytes.{all-zero, over}
-use Rattle.primitives.proofs.Zeros.{zeros-are, are-zeros}
+use Rattle.primitives.proofs.Zeros.{zeros-are, are-zeros, zeros-joined}
 use Rattle.primitives.proofs.Over.{over-over}
 use Rattle.expression.specs.Conditions.{condition-at}
 use Rattle.expression.proofs.Tests.{same-test}
@@ -52,6 +52,26 @@ module _ (n : ℕ) (t : List ℕ) (l : length t ≡ slot-size - 1) where
       let z = are-zeros (drop n t) (and-right (is-some (expression (take n t))) (all-zero (drop n t)) more) in
       let tail : zeros (slot-size - 1 - n) ≡ drop n t = sym (z ∙ ap zeros (length-drop n t ∙ ap (λ k. k - n) l)) in
       rw (a, b, length-take-le n t (omega arith), tail, take-append-drop n t) (same-refl (n ∷ t))
+
+-- `zero_from`: the bytes from e on are zero where those before the last 16 are, and these
+abbrev last-at : ℕ
+last-at = slot-size - 16
+
+module _ (b : List ℕ) (e : ℕ) (before : e ≤ last-at) where
+  in-two : all-zero (part b e slot-size) ≡ (all-zero (part b e last-at) && all-zero (part b last-at slot-size))
+  in-two =
+      let whole : slot-size - e ≡ last-at - e + 16 = omega arith in
+      let there : e + (last-at - e) ≡ last-at = omega arith in
+      ap all-zero (ap (λ n. take n (drop e b)) whole ∙ take-add (last-at - e) 16 (drop e b) ∙
+      ap (λ x. part b e last-at ++ take 16 x) (drop-drop (last-at - e) e b ∙ ap (λ n. drop n b) there)) ∙
+      zeros-joined (part b e last-at) (part b last-at slot-size)
+
+  module _ (last : Bool) (told : last ≡ all-zero (part b last-at slot-size)) where
+    pub last-not : not last ≡ true → false ≡ all-zero (part b e slot-size)
+    last-not t = sym (in-two ∙ rw (← told, not-true last t, and-false (all-zero (part b e last-at))))
+
+    pub last-zero : not last ≡ false → (r : Bool) → r ≡ all-zero (part b e last-at) → r ≡ all-zero (part b e slot-size)
+    last-zero t r er = er ∙ sym (in-two ∙ rw (← told, not-false last t, and-true (all-zero (part b e last-at))))
 
 -- the tests of a slot say whether it is one
 slot-same : (b : List ℕ) → length b ≡ slot-size → is-slot b ≡ (leb (getD b 0 0) (slot-size - 1) && filled (getD b 0 0) b)

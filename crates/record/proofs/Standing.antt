@@ -4,7 +4,7 @@ use mathlib.Core.Bool.{true, false}
 use mathlib.Core.List.{List, _++_, append-assoc}
 use mathlib.Core.Path.{_≡_, refl, sym, ap, _∙_}
 use native.Mathlib.Omega.{arith}
-use native.Mathlib.Nat.{add-zero, add-assoc}
+use native.Mathlib.Nat.{add-zero}
 use lib.ListN.{length, getD, take, drop, length-append, length-take, length-drop, take-append-drop}
 use lib.Seq.{take-at, drop-at, drop-drop, take-append-seam, getD-drop}
 use Rattle.rules.specs.declared.Slot.{Slot}
@@ -19,11 +19,8 @@ use Rattle.laws.proofs.Fitting.{counter-maximum, counter-content}
 use Rattle.laws.proofs.Tests.{and-left, and-right, same-eq, same-refl}
 use Rattle.laws.proofs.Expressions.{expression-length}
 use Rattle.laws.proofs.Inverse.{slot-length, record-length, record-read, two-bytes, past-two, past-three}
+use Rattle.expression.proofs.Numbers.{low-drop}
 use Rattle.record.specs.Places.{object-at, stands-at, Stored}
-
-low-drop : (p k : ℕ) (b : List ℕ) → little-endian-at k (drop p b) ≡ little-endian-at (p + k) b
-unfolding little-endian-at
-low-drop p k b = simp (getD-drop, add-assoc)
 
 -- every slot lies in the head
 pub slot-in-head : (s : Slot) → slot-at s + slot-size ≤ head-size

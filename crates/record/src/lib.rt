@@ -6,17 +6,17 @@ use rules::Offset;
 use rules::Slot;
 ghost use mathlib.Core.Path.{_≡_};
 ghost use mathlib.Core.Bool.{true, _&&_};
-ghost use Prim.Native.Nat.{_+_, _≤_, _<_};
+ghost use Prim.Native.Nat.{_+_, _-_, _≤_, _<_};
 ghost use lib.Dec.{eqb};
 ghost use lib.ListN.{length, getD, take, drop};
-ghost use Rattle.rules.specs.declared.Kind.the-variants.{Data, Counter};
+ghost use Rattle.rules.specs.declared.Kind.the-variants.{Data, Counter, Queue};
 ghost use Rattle.rules.specs.declared.Direction.the-variants.{Up};
 ghost use Rattle.rules.specs.Basic.{little-endian-at, little-endian};
 ghost use Rattle.rules.specs.Expression.{expression-bytes};
 ghost use Rattle.rules.specs.Object.{used, kind-number, is, is-counter, direction, counter-size, in-session, expression-in};
 ghost use Rattle.rules.specs.Layout.{slot-size, head-size, slot-at, slot-of};
 ghost use Rattle.rules.specs.Counter.{exhausted};
-ghost use Rattle.primitives.specs.Bytes.{over};
+ghost use Rattle.primitives.specs.Bytes.{over, all-zero};
 ghost use Rattle.record.specs.Places.{object-at, Stored};
 ghost use Rattle.record.specs.Records.{filled, is-slot, head-allowed, kind-allowed, slots-allowed, body-allowed, is-record, fixed};
 
@@ -50,12 +50,31 @@ pub const SHORTEST: usize = DATA + 1;
 
 const LARGEST: u16 = 1500;
 
-// The numbers of the kinds: data, and counters that count up and down.
+// The numbers of the kinds: data, counters that count up and down, and queues.
 const DATA_KIND: u16 = 1;
 
 const UP_KIND: u16 = 2;
 
+const QUEUE_KIND: u16 = 3;
+
 const DOWN_KIND: u16 = 4;
+
+// Where the last 16 bytes of a slot begin: of a fixed length, they need no loop.
+const LAST: usize = SLOT - 16;
+
+// Whether the bytes of a slot from e on are zero.
+fn zero_from(bytes: &[u8], e: usize) -> bool
+    requires { ⌜ (length (now bytes) ≡ slot-size) × (e ≤ slot-size) ⌝ }
+    ensures { λ r. ⌜ r ≡ all-zero (take (slot-size - e) (drop e (now (bytes .entry)))) ⌝ }
+{
+    if LAST < e {
+        return primitives::all_zero(&bytes[e..SLOT]);
+    }
+    if !primitives::all_zero(&bytes[LAST..SLOT]) {
+        return false;
+    }
+    primitives::all_zero(&bytes[e..LAST])
+}
 
 // Whether a slot holds an expression of n bytes, with zeros behind.
 fn filled(part: &[u8], n: usize) -> bool
@@ -66,7 +85,7 @@ fn filled(part: &[u8], n: usize) -> bool
     if !expression::well_formed(&part[1..e]) {
         return false;
     }
-    primitives::all_zero(&part[e..SLOT])
+    zero_from(part, e)
 }
 
 // Whether it holds one byte, with zeros behind: here and for one condition they are of a fixed length, and need no loop.
@@ -160,7 +179,7 @@ fn counter_sizes(maximum: Length, content: &[u8]) -> bool
     content.len() == counter::SIZE
 }
 
-// Whether the number is that of a kind of record which may have such data: any bytes for data, those of a counter for a counter.
+// Whether the number is that of a kind of record which may have such data: any bytes for data, else those of a counter or of a queue.
 fn kind_ok(kind: u16, maximum: Length, content: &[u8]) -> bool
     ensures { λ r. ⌜ r ≡ kind-allowed kind (maximum .0) (now (content .entry)) ⌝ }
 {
@@ -169,6 +188,9 @@ fn kind_ok(kind: u16, maximum: Length, content: &[u8]) -> bool
     }
     if kind == UP_KIND {
         return counter_sizes(maximum, content);
+    }
+    if kind == QUEUE_KIND {
+        return queue::check(content);
     }
     if kind == DOWN_KIND {
         return counter_sizes(maximum, content);
@@ -260,6 +282,14 @@ pub fn is_up_counter(store: &[u8], at: usize) -> bool
     ensures { λ r. ⌜ r ≡ is (Counter Up) (object-at at (now (store .entry)) .kind) ⌝ }
 {
     kind_at(store, at) == UP_KIND
+}
+
+// Whether it is a queue.
+pub fn is_queue(store: &[u8], at: usize) -> bool
+    requires { ⌜ Stored at (now store) ⌝ }
+    ensures { λ r. ⌜ r ≡ is Queue (object-at at (now (store .entry)) .kind) ⌝ }
+{
+    kind_at(store, at) == QUEUE_KIND
 }
 
 // The way that a counter counts.

@@ -6,8 +6,8 @@ use mathlib.Core.Option.{Option, none, some}
 use lib.Dec.{eqb, ltb}
 use Rattle.rules.specs.declared.Session.{Session}
 use Rattle.rules.specs.declared.Action.{Action}
-use Rattle.rules.specs.declared.Action.the-variants.{GetData, GetMetadata, Write, EraseAndWrite, SetMetadata, Count}
-use Rattle.rules.specs.declared.Kind.the-variants.{Counter}
+use Rattle.rules.specs.declared.Action.the-variants.{GetData, GetMetadata, Write, EraseAndWrite, SetMetadata, Count, Append, Acknowledge}
+use Rattle.rules.specs.declared.Kind.the-variants.{Counter, Queue}
 use Rattle.rules.specs.declared.Direction.the-variants.{Up}
 use Rattle.rules.specs.Basic.{if_then_else_, among, first-of, or-else}
 use Rattle.rules.specs.Expression.{Condition, names-counter, counter-number, Group, just, _and_, Groups, only, _or_, Expression, always, never, when}
@@ -127,11 +127,13 @@ unfoldable pub asked : Action → Object → Expression
 asked GetData o = o .read
 -- Get metadata of a stored object is always granted; metadata of the session's three is 07.
 asked GetMetadata o = if of-session (o .kind) then never else always
--- Writes ask the change expression as stored before the command.
-asked Write o = o .change
-asked EraseAndWrite o = o .change
+-- Writes ask the change expression as stored before the command; plain writes to a queue, erasing or not, are 07.
+asked Write o = if is Queue (o .kind) then never else o .change
+asked EraseAndWrite o = if is Queue (o .kind) then never else o .change
 asked SetMetadata o = if of-session (o .kind) then never else o .change
 asked Count o = o .change
+asked Append o = o .change
+asked Acknowledge o = o .change
 
 unfoldable pub access : Action → Object → Seen → Grant
 access a o see = grant see (o .lcso) (asked a o)

@@ -68,6 +68,13 @@ big-endian-4 n = big-endian (n / 0x10000) ++ big-endian (n % 0x10000)
 unfoldable pub big-endian-4-at : ℕ → List ℕ → ℕ
 big-endian-4-at k b = 0x10000 * big-endian-at k b + big-endian-at (k + 2) b
 
+-- the same, least significant byte first
+unfoldable pub little-endian-4 : ℕ → List ℕ
+little-endian-4 n = little-endian (n % 0x10000) ++ little-endian (n / 0x10000)
+
+unfoldable pub little-endian-4-at : ℕ → List ℕ → ℕ
+little-endian-4-at k b = little-endian-at k b + 0x10000 * little-endian-at (k + 2) b
+
 abbrev pub is-none : {A : Type 0} → Option A → Bool
 is-none none = true
 is-none (some a) = false

@@ -1,5 +1,5 @@
--- The bench sheet: P1 to P12 as one table, its other lines, and the six slips; then short reads, lists of commands, counters, and the conditions
--- that use them up.
+-- The bench sheet: P1 to P12 as one table, its other lines, and the six slips; then short reads, lists of commands, counters, the conditions that
+-- use them up, and fare queues.
 use Prim.Native.Nat.{ℕ}
 use mathlib.Core.Bool.{true, false}
 use mathlib.Core.List.{List, [], _∷_, _++_}
@@ -7,8 +7,9 @@ use Rattle.rules.specs.Basic.{zeros}
 use Rattle.rules.specs.Hex.{hex, ascii}
 use Rattle.rules.specs.Factory.{factory-store, fresh-session}
 use Rattle.rules.specs.Cases.{session, opened, closed, _gives_, _refused_leaving_, in-room, done-empty, turn, told}
-use Rattle.rules.specs.Cases.{Case, talk, judge, begins, reads-writes, runs, prints}
-use Rattle.rules.specs.Stores.{by-hand, second-record, third-record, three, up-counter, down-counter, guarded, guarded-counter}
+use Rattle.rules.specs.Cases.{Case, talk, judge, sound, begins, reads-writes, runs, prints}
+use Rattle.rules.specs.Stores.{by-hand, first-record, second-record, third-record, three, up-counter, down-counter, guarded, guarded-counter}
+use Rattle.rules.specs.Stores.{queue-record, guarded-40, queue-40}
 
 unfoldable pub open-command : List ℕ
 open-command = hex "70 00 00 10 D2 76 00 00 04 47 65 6E 41 75 74 68 41 70 70 6C"
@@ -308,3 +309,60 @@ condition-cases =
     hex "01 00 00 06 E1 20 00 00 00 04" gives hex "00 00 00 04 00 00 00 02" ∷
     hex "01 00 00 06 E1 21 00 00 00 04" gives hex "00 00 00 04 00 00 00 01" ∷ [])
     (opened 0x00) ∷ []
+
+-- fare queues
+unfoldable pub queue-cases : List Case
+queue-cases =
+    -- numbers start at 0; fares stand end to end, in order; where used plus 8 plus the body is above the maximum it is 08, and nothing is lost
+    talk (queue-40 0x40 0x04 (hex "00 00 00 00")) (opened 0x00)
+    (hex "02 04 00 04 E1 40 AA BB" gives done-empty ∷
+    hex "02 04 00 03 E1 40 CC" gives done-empty ∷
+    hex "01 00 00 06 E1 40 00 00 00 28" gives hex "00 00 00 17 02 00 00 00 0A 00 01 00 00 00 00 00 AA BB 09 00 01 00 01 00 00 00 CC" ∷
+    hex "02 04 00 0C E1 40 D0 D1 D2 D3 D4 D5 D6 D7 D8 D9" refused 0x08 leaving 0x08 ∷
+    hex "02 04 00 0B E1 40 D0 D1 D2 D3 D4 D5 D6 D7 D8" gives done-empty ∷
+    hex "02 04 00 03 E1 40 EE" refused 0x08 leaving 0x08 ∷
+    hex "01 00 00 06 E1 40 00 00 00 28" gives
+    hex "00 00 00 28 03 00 00 00 0A 00 01 00 00 00 00 00 AA BB 09 00 01 00 01 00 00 00 CC 11 00 01 00 02 00 00 00 D0 D1 D2 D3 D4 D5 D6 D7 D8" ∷
+    -- an acknowledgement removes that fare and all before it; the next number stays, and what is accepted then stands behind the rest
+    hex "02 05 00 06 E1 40 00 00 00 01" gives done-empty ∷
+    hex "01 00 00 06 E1 40 00 00 00 28" gives hex "00 00 00 15 03 00 00 00 11 00 01 00 02 00 00 00 D0 D1 D2 D3 D4 D5 D6 D7 D8" ∷
+    hex "02 04 00 03 E1 40 EE" gives done-empty ∷
+    hex "01 00 00 06 E1 40 00 00 00 28" gives
+    hex "00 00 00 1E 04 00 00 00 11 00 01 00 02 00 00 00 D0 D1 D2 D3 D4 D5 D6 D7 D8 09 00 01 00 03 00 00 00 EE" ∷
+    -- a number that is not present is 05; an empty queue has used 4
+    hex "82 05 00 06 E1 40 00 00 00 01" refused 0x05 leaving 0x05 ∷
+    hex "82 05 00 06 E1 40 00 00 00 04" refused 0x05 leaving 0x05 ∷
+    hex "02 05 00 06 E1 40 00 00 00 03" gives done-empty ∷
+    hex "01 00 00 06 E1 40 00 00 00 28" gives hex "00 00 00 04 04 00 00 00" ∷
+    hex "02 05 00 06 E1 40 00 00 00 03" refused 0x05 leaving 0x05 ∷ [])
+    (opened 0x05) ∷
+    -- FFFFFFFE is the last number given; then it is 0D, and 08 before that
+    talk (queue-40 0x40 0x04 (hex "FE FF FF FF") ++ queue-record 0x41 (hex "64 00") (hex "04 00") (hex "04 00") (hex "FF FF FF FF")) (opened 0x00)
+    (hex "02 04 00 03 E1 40 AA" gives done-empty ∷
+    hex "01 00 00 06 E1 40 00 00 00 28" gives hex "00 00 00 0D FF FF FF FF 09 00 01 00 FE FF FF FF AA" ∷
+    hex "02 04 00 03 E1 40 BB" refused 0x0D leaving 0x0D ∷
+    hex "82 05 00 06 E1 40 FF FF FF FF" refused 0x05 leaving 0x05 ∷
+    hex "02 05 00 06 E1 40 FF FF FF FE" gives done-empty ∷
+    hex "02 04 00 03 E1 40 BB" refused 0x0D leaving 0x0D ∷
+    hex "82 04 00 03 E1 41 BB" refused 0x08 leaving 0x08 ∷ [])
+    (opened 0x08) ∷
+    -- 04 at step 7, 07 at step 10, then 03; plain writes, erasing or not, are 07
+    talk (queue-40 0x40 0x04 (hex "00 00 00 00") ++ guarded-40 0x41 "01 FF" "01 00" 0x04 (hex "00 00 00 00") ++ first-record ++ third-record) (opened 0x00)
+    (hex "02 04 00 02 E1 40" refused 0x04 leaving 0x04 ∷
+    hex "02 05 00 05 E1 40 00 00 00" refused 0x04 leaving 0x04 ∷
+    hex "02 04 00 03 E1 41 AA" refused 0x07 leaving 0x07 ∷
+    hex "02 05 00 06 E1 41 00 00 00 00" refused 0x07 leaving 0x07 ∷
+    hex "02 04 00 03 F1 D2 AA" refused 0x07 leaving 0x07 ∷
+    hex "82 04 00 03 F1 D0 AA" refused 0x03 leaving 0x03 ∷
+    hex "82 05 00 06 F1 C0 00 00 00 03" refused 0x03 leaving 0x03 ∷
+    hex "82 02 00 05 E1 40 00 00 01" refused 0x03 leaving 0x03 ∷
+    hex "82 04 00 03 F1 C2 00" refused 0x07 leaving 0x07 ∷
+    hex "82 00 00 05 E1 40 00 00 01" refused 0x07 leaving 0x07 ∷
+    hex "82 40 00 08 E1 40 00 00 01 00 00 00" refused 0x07 leaving 0x07 ∷ [])
+    (opened 0x07) ∷
+    -- a store has whole fares up to used, numbered by ones up to just below the next number
+    sound (queue-40 0x40 0x16 (hex "07 00 00 00 09 00 01 00 05 00 00 00 AA 09 00 01 00 06 00 00 00 BB")) true ∷
+    sound (queue-40 0x40 0x16 (hex "07 00 00 00 09 00 01 00 04 00 00 00 AA 09 00 01 00 06 00 00 00 BB")) false ∷
+    sound (queue-40 0x40 0x16 (hex "08 00 00 00 09 00 01 00 05 00 00 00 AA 09 00 01 00 06 00 00 00 BB")) false ∷
+    sound (queue-40 0x40 0x15 (hex "07 00 00 00 09 00 01 00 05 00 00 00 AA 08 00 01 00 06 00 00 00 BB")) false ∷
+    sound (queue-40 0x40 0x03 (hex "00 00 00 00")) false ∷ []

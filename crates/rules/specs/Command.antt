@@ -5,11 +5,11 @@ use mathlib.Core.List.{List, [], _∷_, _++_}
 use mathlib.Core.Option.{Option, none, some}
 use lib.Dec.{eqb, leb}
 use lib.ListN.{length, getD, drop}
-use Rattle.rules.specs.declared.Action.the-variants.{GetData, GetMetadata, Write, EraseAndWrite, SetMetadata, Count}
+use Rattle.rules.specs.declared.Action.the-variants.{GetData, GetMetadata, Write, EraseAndWrite, SetMetadata, Count, Append, Acknowledge}
 use Rattle.rules.specs.declared.Sizes.{Sizes}
 use Rattle.rules.specs.declared.Row.{Row}
 use Rattle.rules.specs.declared.Row.the-variants.{OnObject, OpenApplication, CloseApplication, Unknown}
-use Rattle.rules.specs.Basic.{if_then_else_, same, big-endian-at}
+use Rattle.rules.specs.Basic.{if_then_else_, same, big-endian-at, big-endian-4-at}
 use Rattle.rules.specs.Hex.{hex, ascii}
 
 -- Cmd (1), Param (1), InLen (2), InData --------------------------------------------------------------------------------
@@ -80,6 +80,10 @@ command-table =
     table-line 0x02 0x01 (at-least 4) anything (OnObject SetMetadata) ∷
     -- count: object 2, offset 2, one step byte
     table-line 0x02 0x02 (exactly 5) anything (OnObject Count) ∷
+    -- append: object 2, a body of 1 to 200 bytes
+    table-line 0x02 0x04 (between 3 202) anything (OnObject Append) ∷
+    -- acknowledge: object 2, number 4
+    table-line 0x02 0x05 (exactly 6) anything (OnObject Acknowledge) ∷
     -- open: D2 76 00 00 04, then "GenAuthAppl" in ASCII (16 bytes)
     table-line 0x70 0x00 (exactly 16) (same identifier) OpenApplication ∷
     -- close: nothing
@@ -140,3 +144,11 @@ step-byte c = getD c 8 0
 -- set metadata: 20, L, L bytes
 unfoldable pub sent-metadata : List ℕ → List ℕ
 sent-metadata c = drop 6 c
+
+-- append
+unfoldable pub sent-body : List ℕ → List ℕ
+sent-body c = drop 6 c
+
+-- acknowledge: most significant byte first
+unfoldable pub sent-number : List ℕ → ℕ
+sent-number c = big-endian-4-at 6 c

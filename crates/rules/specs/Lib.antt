@@ -1,4 +1,4 @@
--- The rules of document 01, and of counters, as definitions that antt computes, in reading order.
+-- The rules of document 01, of counters and of fare queues, as definitions that antt computes, in reading order.
 pub mod Basic
 pub mod Hex
 -- Command and response bytes
@@ -7,6 +7,7 @@ pub mod Response
 -- Life cycles and access expressions
 pub mod Expression
 -- What an object holds on the controller
+pub mod Queue
 pub mod Object
 pub mod Layout
 pub mod Counter

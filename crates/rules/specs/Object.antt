@@ -5,12 +5,13 @@ use mathlib.Core.List.{List, [], _∷_}
 use lib.Dec.{eqb, ltb, leb}
 use lib.ListN.{length}
 use Rattle.rules.specs.declared.Kind.{Kind}
-use Rattle.rules.specs.declared.Kind.the-variants.{Data, Counter, LifeCycle, Status}
+use Rattle.rules.specs.declared.Kind.the-variants.{Data, Counter, Queue, LifeCycle, Status}
 use Rattle.rules.specs.declared.Direction.{Direction}
 use Rattle.rules.specs.declared.Direction.the-variants.{Up, Down}
 use Rattle.rules.specs.declared.Slot.{Slot}
 use Rattle.rules.specs.declared.Slot.the-variants.{Change, Read, Execute}
-use Rattle.rules.specs.Basic.{if_then_else_, all, among}
+use Rattle.rules.specs.Basic.{if_then_else_, all, among, is-some}
+use Rattle.rules.specs.Queue.{queue}
 use Rattle.rules.specs.Expression.{Expression, slot-size, expression-allowed-with, is-state}
 
 -- kinds -------------------------------------------------------------------------------------------------------------
@@ -20,6 +21,7 @@ unfoldable pub kind-number : Kind → ℕ
 kind-number Data = 0x0001
 kind-number (Counter Up) = 0x0002
 kind-number (Counter Down) = 0x0004
+kind-number Queue = 0x0003
 kind-number LifeCycle = 0x10001
 kind-number Status = 0x10002
 
@@ -28,6 +30,7 @@ unfoldable pub read-kind : ℕ → Kind
 read-kind n =
     if eqb n 0x0001 then Data else
     if eqb n 0x0002 then Counter Up else
+    if eqb n 0x0003 then Queue else
     Counter Down
 
 -- one kind is the other
@@ -55,6 +58,8 @@ unfoldable pub data-allowed : Kind → ℕ → List ℕ → Bool
 data-allowed Data maximum content = true
 -- maximum and used always 8
 data-allowed (Counter d) maximum content = eqb maximum counter-size && eqb (length content) counter-size
+-- the next number and whole fares up to used
+data-allowed Queue maximum content = is-some (queue content)
 -- not in a store
 data-allowed LifeCycle maximum content = false
 data-allowed Status maximum content = false

@@ -1,23 +1,24 @@
--- Reading, writing and counting: what each action refuses of an object beyond access, answers and changes.
+-- Reading, writing, counting, appending and acknowledging: what each action refuses of an object beyond access, answers and changes.
 use Prim.Native.Nat.{ℕ, _+_, _-_, min}
 use mathlib.Core.Bool.{Bool, not, _&&_, _||_}
 use mathlib.Core.List.{List, [], _++_}
 use mathlib.Core.Option.{Option, none, some}
-use lib.Dec.{eqb, leb}
+use lib.Dec.{eqb, leb, ltb}
 use lib.ListN.{length, getD, take, drop}
 use lib.Seq.{slice}
 use Rattle.rules.specs.declared.Session.{Session}
-use Rattle.rules.specs.declared.Kind.the-variants.{LifeCycle}
+use Rattle.rules.specs.declared.Kind.the-variants.{Queue, LifeCycle}
 use Rattle.rules.specs.declared.Action.{Action}
-use Rattle.rules.specs.declared.Action.the-variants.{GetData, GetMetadata, Write, EraseAndWrite, SetMetadata, Count}
-use Rattle.rules.specs.declared.Refusal.the-variants.{InvalidParam, InvalidData, BoundaryExceeded}
+use Rattle.rules.specs.declared.Action.the-variants.{GetData, GetMetadata, Write, EraseAndWrite, SetMetadata, Count, Append, Acknowledge}
+use Rattle.rules.specs.declared.Refusal.the-variants.{InvalidParam, InvalidData, BoundaryExceeded, InsufficientBuffer}
 use Rattle.rules.specs.declared.Verdict.{Verdict}
 use Rattle.rules.specs.declared.Verdict.the-variants.{Accepted}
 use Rattle.rules.specs.Basic.{if_then_else_, zeros}
-use Rattle.rules.specs.Command.{offset, asked-length, sent-data, step-byte, sent-metadata}
+use Rattle.rules.specs.Command.{offset, asked-length, sent-data, step-byte, sent-metadata, sent-body, sent-number}
 use Rattle.rules.specs.Expression.{may-become}
 use Rattle.rules.specs.Object.{Object, used, with-content, is, of-session, is-counter, direction, counter-size}
 use Rattle.rules.specs.Counter.{exhausted, after-count}
+use Rattle.rules.specs.Queue.{fare-head, queue-bytes, queue-in, appended, present-in, acknowledged}
 use Rattle.rules.specs.Metadata.{metadata, metadata-allowed, sent-fields, with-fields}
 use Rattle.rules.specs.Session.{with-error, with-state}
 use Rattle.rules.specs.Access.{Seen}
@@ -105,15 +106,47 @@ counting c o see =
       session = see .session;
     }
 
+-- On another kind or a life cycle object it is 03, judged right after access; 08 exactly when used plus 8 plus the body is above the maximum; 0D
+-- when the next number is FFFFFFFF.
+unfoldable pub appending : List ℕ → Object → Seen → Operation
+appending c o see =
+    let q = queue-in (o .content) in
+    record {
+      verdict =
+          not (is Queue (o .kind)) refused InvalidParam or  -- 03
+          ltb (o .maximum) (used o + fare-head + length (sent-body c)) refused BoundaryExceeded or  -- 11: 08
+          eqb (q .next) 0xFFFFFFFF refused InsufficientBuffer or  -- 13: 0D
+          Accepted;
+      answer = [];
+      stores = some (with-content (queue-bytes (appended (sent-body c) q)) o);
+      session = see .session;
+    }
+
+-- Also 03 right after access; a number that is not present is 05.
+unfoldable pub acknowledging : List ℕ → Object → Seen → Operation
+acknowledging c o see =
+    let q = queue-in (o .content) in
+    record {
+      verdict =
+          not (is Queue (o .kind)) refused InvalidParam or  -- 03
+          not (present-in (q .fares) (sent-number c)) refused InvalidData or  -- 12: 05
+          Accepted;
+      answer = [];
+      stores = some (with-content (queue-bytes (acknowledged (sent-number c) q)) o);
+      session = see .session;
+    }
+
 -- every set answers with no data; to unfold it is to unfold what each action does
 unfoldable pub operation : Action → List ℕ → Object → Seen → Operation
-unfolding getting getting-metadata writing setting-metadata counting
+unfolding getting getting-metadata writing setting-metadata counting appending acknowledging
 operation GetData c o see = getting c o see
 operation GetMetadata c o see = getting-metadata o see
 operation Write c o see = writing (o .content) c o see
 operation EraseAndWrite c o see = writing [] c o see
 operation SetMetadata c o see = setting-metadata c o see
 operation Count c o see = counting c o see
+operation Append c o see = appending c o see
+operation Acknowledge c o see = acknowledging c o see
 
 -- what a command does that names no object: it answers with no data, and this is the session after it
 unfoldable pub setting-session : Session → Operation

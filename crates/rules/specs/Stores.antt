@@ -54,6 +54,21 @@ guarded k change read = by-hand (hex "64 00 01 00" ++ k ∷ hex "F1 04 00 03 00 
 unfoldable pub guarded-counter : ℕ → String → String → List ℕ → List ℕ
 guarded-counter k change read content = by-hand (hex "68 00 02 00" ++ k ∷ hex "E1 08 00 08 00 01 00") change read "01 00" content
 
+-- a queue under its number's low byte, with the two bytes of its record's length, of its maximum and of its used: changed and read on these; always
+unfoldable pub guarded-queue : ℕ → String → String → List ℕ → List ℕ → List ℕ → List ℕ → List ℕ
+guarded-queue k change read long maximum used content =
+    by-hand (long ++ hex "03 00" ++ k ∷ hex "E1" ++ maximum ++ used ++ hex "01 00") change read "01 00" content
+
+unfoldable pub queue-record : ℕ → List ℕ → List ℕ → List ℕ → List ℕ → List ℕ
+queue-record k long maximum used content = guarded-queue k "01 00" "01 00" long maximum used content
+
+-- of maximum 40, with so many bytes used; zeros behind what is given
+unfoldable pub guarded-40 : ℕ → String → String → ℕ → List ℕ → List ℕ
+guarded-40 k change read used content = guarded-queue k change read (hex "88 00") (hex "28 00") (used ∷ hex "00") (padded 40 content)
+
+unfoldable pub queue-40 : ℕ → ℕ → List ℕ → List ℕ
+queue-40 k used content = guarded-40 k "01 00" "01 00" used content
+
 -- n records, numbered from k on
 unfoldable pub many : (ℕ → List ℕ) → ℕ → ℕ → List ℕ
 many r zero k = []

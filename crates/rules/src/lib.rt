@@ -47,6 +47,7 @@ pub enum Direction {
 pub enum Kind {
     Data,
     Counter(Direction),
+    Queue,
     LifeCycle,
     Status,
 }
@@ -59,6 +60,8 @@ pub enum Action {
     EraseAndWrite,
     SetMetadata,
     Count,
+    Append,
+    Acknowledge,
 }
 
 // The row of the command table that Cmd and Param name.

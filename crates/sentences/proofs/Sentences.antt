@@ -1,5 +1,5 @@
--- A case for each sentence, row and cell of document 01, and for each about counters and the conditions that use them up, follows from the rules:
--- antt computes the tables.
+-- A case for each sentence, row and cell of document 01, and for each about counters, the conditions that use them up and fare queues, follows from
+-- the rules: antt computes the tables.
 use mathlib.Core.Bool.{Bool, true}
 use mathlib.Core.List.{List}
 use mathlib.Core.Path.{_≡_, refl}
@@ -8,10 +8,11 @@ use Rattle.rules.proofs.Bench.{computed}
 use Rattle.sentences.specs.Sentences.{text-line, command-cases, form-cases, row-cases, object-cases, expression-cases, store-cases, size-cases, factory-cases, session-cases, data-cases, metadata-cases, program-cases}
 use Rattle.sentences.specs.Counters.{trips, rides, of-kind, counter-record-cases, locked, unreadable, count-cases, counter-write-cases}
 use Rattle.sentences.specs.Conditions.{slotted, condition-form-cases, usable-beside, unusable-beside, numbered, condition-holds-cases, counter, tallies, moves, stays, deciding-cases, thrice, thrice-counter, uses, plain, use-cases, once, refused-cases, own, own-after, own-cases, steps, sealed, step-cases, stored-expression-cases}
+use Rattle.sentences.specs.Queues.{held, numbered-so, one-fare, small-fare, kept-as, queue-record-cases, empty-40, numbers, append-cases, three-fares, leaves, acknowledge-cases, counted-queue, two-queues, queue-plain-cases}
 
 -- `unfolding tabled` opens every rule and every table
 tabled : List Case → Bool
-unfolding computed text-line command-cases form-cases row-cases object-cases expression-cases store-cases size-cases factory-cases session-cases data-cases metadata-cases program-cases trips rides of-kind counter-record-cases locked unreadable count-cases counter-write-cases slotted condition-form-cases usable-beside unusable-beside numbered condition-holds-cases counter tallies moves stays deciding-cases thrice thrice-counter uses plain use-cases once refused-cases own own-after own-cases steps sealed step-cases stored-expression-cases
+unfolding computed text-line command-cases form-cases row-cases object-cases expression-cases store-cases size-cases factory-cases session-cases data-cases metadata-cases program-cases trips rides of-kind counter-record-cases locked unreadable count-cases counter-write-cases slotted condition-form-cases usable-beside unusable-beside numbered condition-holds-cases counter tallies moves stays deciding-cases thrice thrice-counter uses plain use-cases once refused-cases own own-after own-cases steps sealed step-cases stored-expression-cases held numbered-so one-fare small-fare kept-as queue-record-cases empty-40 numbers append-cases three-fares leaves acknowledge-cases counted-queue two-queues queue-plain-cases
 tabled cs = all-right cs
 
 -- Command and response bytes
@@ -128,3 +129,23 @@ step-sentences = refl
 pub stored-expression-sentences : all-right stored-expression-cases ≡ true
 unfolding tabled
 stored-expression-sentences = refl
+
+-- fare queues: their records
+pub queue-record-sentences : all-right queue-record-cases ≡ true
+unfolding tabled
+queue-record-sentences = refl
+
+-- appends
+pub append-sentences : all-right append-cases ≡ true
+unfolding tabled
+append-sentences = refl
+
+-- acknowledgements
+pub acknowledge-sentences : all-right acknowledge-cases ≡ true
+unfolding tabled
+acknowledge-sentences = refl
+
+-- plain writes, reading, metadata, the counters of a condition, and two lists
+pub queue-plain-sentences : all-right queue-plain-cases ≡ true
+unfolding tabled
+queue-plain-sentences = refl

@@ -37,10 +37,12 @@ counter-record-cases =
     sound (of-kind (hex "68 00") (hex "01 00") (hex "08 00") (hex "07 00") (hex "00 00 00 01 00 00 00 00")) true ∷
     -- a kind that is not listed
     sound (of-kind (hex "68 00") (hex "00 00") (hex "08 00") (hex "08 00") (hex "00 00 00 01 00 00 00 02")) false ∷
-    sound (of-kind (hex "68 00") (hex "03 00") (hex "08 00") (hex "08 00") (hex "00 00 00 01 00 00 00 02")) false ∷
     sound (of-kind (hex "68 00") (hex "05 00") (hex "08 00") (hex "08 00") (hex "00 00 00 01 00 00 00 02")) false ∷
+    sound (of-kind (hex "68 00") (hex "06 00") (hex "08 00") (hex "08 00") (hex "00 00 00 01 00 00 00 02")) false ∷
     sound (of-kind (hex "68 00") (hex "02 01") (hex "08 00") (hex "08 00") (hex "00 00 00 01 00 00 00 02")) false ∷
-    sound (of-kind (hex "68 00") (hex "00 04") (hex "08 00") (hex "08 00") (hex "00 00 00 01 00 00 00 02")) false ∷ []
+    sound (of-kind (hex "68 00") (hex "00 04") (hex "08 00") (hex "08 00") (hex "00 00 00 01 00 00 00 02")) false ∷
+    -- the bytes of a counter are no queue
+    sound (of-kind (hex "68 00") (hex "03 00") (hex "08 00") (hex "08 00") (hex "00 00 00 01 00 00 00 02")) false ∷ []
 
 -- counts --------------------------------------------------------------------------------------------------------------------
 

@@ -1,3 +1,4 @@
 pub mod Sentences
 pub mod Counters
 pub mod Conditions
+pub mod Queues

@@ -123,7 +123,7 @@ impl Event<'_> {
             Row::GetData => self.get_data_rows(),
             Row::GetMetadata => self.done_rows(CounterRow::GetMetadata),
             Row::SetMetadata => self.done_rows(CounterRow::SetMetadata),
-            Row::Open | Row::Close => Vec::new(),
+            Row::Append | Row::Acknowledge | Row::Open | Row::Close => Vec::new(),
         }
     }
 
@@ -144,6 +144,8 @@ impl Event<'_> {
         };
         match object {
             Object::Session(object) => self.session_count_rows(object),
+            // Queues have rows of their own.
+            Object::Stored(record) if record.queue().is_some() => Vec::new(),
             Object::Stored(record) => match record.counter() {
                 None => self.data_count_rows(record, offset),
                 Some(counter) => self.counter_count_rows(counter, offset),

@@ -16,15 +16,19 @@ pub enum Asker {
     Write,
     Erase,
     Count,
+    Append,
+    Acknowledge,
     SetMetadata,
 }
 
 impl Asker {
-    const ALL: [Asker; 5] = [
+    const ALL: [Asker; 7] = [
         Asker::Get,
         Asker::Write,
         Asker::Erase,
         Asker::Count,
+        Asker::Append,
+        Asker::Acknowledge,
         Asker::SetMetadata,
     ];
 
@@ -34,6 +38,8 @@ impl Asker {
             CommandRow::Known(Row::Write) => Some(Asker::Write),
             CommandRow::Known(Row::EraseAndWrite) => Some(Asker::Erase),
             CommandRow::Known(Row::Count) => Some(Asker::Count),
+            CommandRow::Known(Row::Append) => Some(Asker::Append),
+            CommandRow::Known(Row::Acknowledge) => Some(Asker::Acknowledge),
             CommandRow::Known(Row::SetMetadata) => Some(Asker::SetMetadata),
             _ => None,
         }
@@ -52,8 +58,17 @@ impl Asker {
             Asker::Get => &[Refusal::OutOfBounds, Refusal::NoRoom],
             Asker::Write | Asker::Erase => &[Refusal::OutOfBounds],
             Asker::Count => &[Refusal::WrongParam, Refusal::OutOfBounds],
+            Asker::Append => &[Refusal::WrongParam, Refusal::OutOfBounds, Refusal::NoRoom],
+            Asker::Acknowledge => &[Refusal::WrongParam, Refusal::WrongValue],
             Asker::SetMetadata => &[Refusal::WrongValue],
         }
+    }
+
+    /// Whether a command of this kind, done, may be granted in this way.
+    fn may_have(self, grant: Grant) -> bool {
+        let at_counter = matches!(grant, Grant::MovedOwn | Grant::MovedOtherOfCounter);
+        let at_queue = matches!(self, Asker::Append | Asker::Acknowledge);
+        !(at_counter && at_queue)
     }
 }
 
@@ -66,18 +81,20 @@ pub enum Named {
     Above,
     Missing,
     Data,
+    Queue,
     DownCounter,
     OfSession,
 }
 
 impl Named {
-    const ALL: [Named; 8] = [
+    const ALL: [Named; 9] = [
         Named::Below,
         Named::OneBelow,
         Named::AtThreshold,
         Named::Above,
         Named::Missing,
         Named::Data,
+        Named::Queue,
         Named::DownCounter,
         Named::OfSession,
     ];
@@ -91,7 +108,9 @@ impl Named {
         let Some(place) = store::find(store, number) else {
             return Named::Missing;
         };
-        match Record::at(store, place).counter() {
+        let record = Record::at(store, place);
+        match record.counter() {
+            None if record.queue().is_some() => Named::Queue,
             None => Named::Data,
             Some(counter) if counter.direction == Direction::Down => Named::DownCounter,
             Some(Counter {
@@ -241,7 +260,10 @@ impl UsedRow {
         let mut all = Vec::new();
         for asker in Asker::ALL {
             all.extend(Named::ALL.map(|named| UsedRow::Names(asker, named)));
-            all.extend(Grant::ALL.map(|grant| UsedRow::Granted(asker, grant)));
+            let grants = Grant::ALL
+                .into_iter()
+                .filter(|&grant| asker.may_have(grant));
+            all.extend(grants.map(|grant| UsedRow::Granted(asker, grant)));
             let reasons = Named::ALL.into_iter().filter(|named| !named.holds());
             all.extend(reasons.map(|named| UsedRow::RefusedBy(asker, named)));
             all.push(UsedRow::RefusedByState(asker));
@@ -336,9 +358,13 @@ impl Event<'_> {
         self.asked(self.stored_record()?)?.disagreement()
     }
 
-    /// The expression that the command asks, if it asks one.
+    /// The expression that the command asks, if it asks one: a plain write at a queue
+    /// asks none.
     fn asked<'e>(&'e self, record: Record<'e>) -> Option<Asked<'e>> {
         let asker = Asker::of(self.row)?;
+        if matches!(asker, Asker::Write | Asker::Erase) && record.queue().is_some() {
+            return None;
+        }
         let groups = self.groups(record, asker.slot());
         Some(Asked {
             event: self,
@@ -349,8 +375,15 @@ impl Event<'_> {
         })
     }
 
+    /// Whether a record's change expression holds, and the counters it would move.
+    pub(super) fn change_judged(&self, record: Record<'_>) -> (bool, Vec<u16>) {
+        let groups = self.groups(record, Slot::Change);
+        let group = groups.iter().find(|group| is_true(group));
+        (group.is_some(), group.map_or(Vec::new(), numbers_once))
+    }
+
     /// The stored object of a command that reached access.
-    fn stored_record(&self) -> Option<Record<'_>> {
+    pub(super) fn stored_record(&self) -> Option<Record<'_>> {
         let reached_access = match self.verdict {
             Verdict::Done => true,
             Verdict::Refused(Refusal::NoAccess) => true,
@@ -698,6 +731,8 @@ impl Asked<'_> {
             Asker::Count => self.counted(before, after),
             Asker::Get => (self.event.out_len > 0).then_some(Own::Read),
             Asker::SetMetadata => Some(Own::SetMetadata),
+            // Done at queues only.
+            Asker::Append | Asker::Acknowledge => None,
         };
         own.map(UsedRow::Own).into_iter().collect()
     }

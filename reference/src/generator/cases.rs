@@ -67,8 +67,11 @@ const BEGINNINGS: [(usize, Beginning); 5] = [
     (14, Beginning::OddSession),
     (6, Beginning::Factory),
     (4, Beginning::FactoryBytes),
-    (46, Beginning::Damaged),
+    (80, Beginning::Damaged),
 ];
+
+/// From one damage to the next: no divisor of their count, so that all have their turn.
+const STRIDE: usize = 37;
 
 /// Makes cases while it follows what they do to the store and session.
 struct Maker {
@@ -121,7 +124,7 @@ impl Maker {
     fn length_of_run(&mut self) -> usize {
         let mut records = store::records(&self.state.store);
         match records.any(|(_, record)| names_counter(record)) && self.random.chance(70) {
-            true => self.random.between(70, 150),
+            true => self.random.between(60, 140),
             false => self.random.between(10, 70),
         }
     }
@@ -155,7 +158,7 @@ impl Maker {
     /// A store with the next damage, and any session.
     fn begin_damaged<E>(&mut self, take: &mut impl FnMut(Case) -> Result<(), E>) -> Result<(), E> {
         let damage = self.damages[self.turn];
-        self.turn = (self.turn + 1) % self.damages.len();
+        self.turn = (self.turn + STRIDE) % self.damages.len();
         let store = damage.make(&mut self.random);
         let session = match self.random.chance(80) {
             true => working_session(&mut self.random),

@@ -6,10 +6,12 @@ use crate::expression::CounterSet;
 use crate::generator::contents::Content;
 use crate::generator::counting::near_counter;
 use crate::generator::names::{names_counter, names_counter_in, Names};
+use crate::generator::queues::{body_size, number_to_acknowledge};
 use crate::generator::random::Random;
 use crate::generator::stores::{not_a_state, object_number, random_counter};
 use crate::metadata;
 use crate::program::ROOM;
+use crate::queue::{self, Queue, SequenceNumber};
 use crate::replay::State;
 use crate::session::{SessionObject, STATES, TERMINATION};
 use crate::store::{self, Record, Slot};
@@ -81,12 +83,14 @@ enum Kind {
     Short,
 }
 
-const KINDS: [(usize, Kind); 11] = [
+const KINDS: [(usize, Kind); 13] = [
     (36, Kind::Row(Row::GetData)),
     (9, Kind::Row(Row::GetMetadata)),
     (26, Kind::Row(Row::Write)),
     (14, Kind::Row(Row::EraseAndWrite)),
     (26, Kind::Row(Row::Count)),
+    (30, Kind::Row(Row::Append)),
+    (20, Kind::Row(Row::Acknowledge)),
     (22, Kind::Row(Row::SetMetadata)),
     (4, Kind::Row(Row::Open)),
     (2, Kind::Row(Row::Close)),
@@ -192,6 +196,8 @@ impl Commands {
             Row::Write => Made::without_data(write(0x00, view, random)),
             Row::EraseAndWrite => Made::without_data(write(0x40, view, random)),
             Row::Count => Made::without_data(count(view, random)),
+            Row::Append => Made::without_data(append(view, random)),
+            Row::Acknowledge => Made::without_data(acknowledge(view, random)),
             Row::SetMetadata => self.set_metadata(view, random),
             Row::Open => Made::without_data(open(random)),
             Row::Close => Made::without_data(framed(CLOSE, 0x00, &[])),
@@ -251,17 +257,30 @@ fn pick_kind(view: &View<'_>, random: &mut Random) -> Kind {
     }
 }
 
-/// A kind of command; without a counter, fewer counts; where conditions use up
-/// counters, all that expressions grant about alike.
+/// A kind of command; without a counter or a queue, fewer of theirs; where conditions
+/// use up counters, all that expressions grant about alike.
 fn pick_judged_kind(view: &View<'_>, random: &mut Random) -> Kind {
-    if !view.names.is_empty() && random.chance(30) {
+    if !view.names.is_empty() && random.chance(28) {
         return Kind::Row(random.pick(&[Row::Write, Row::EraseAndWrite, Row::Count]));
     }
-    match random.pick_weighted(&KINDS) {
-        Kind::Row(Row::Count) if !view.has_counter() && random.chance(70) => {
-            random.pick_weighted(&KINDS)
-        }
-        kind => kind,
+    if !view.names.is_empty() && view.has_queue() && random.chance(35) {
+        return Kind::Row(random.pick(&[
+            Row::Append,
+            Row::Append,
+            Row::Acknowledge,
+            Row::Acknowledge,
+            Row::SetMetadata,
+        ]));
+    }
+    let kind = random.pick_weighted(&KINDS);
+    let lacks_object = match kind {
+        Kind::Row(Row::Count) => !view.has_counter(),
+        Kind::Row(Row::Append | Row::Acknowledge) => !view.has_queue(),
+        _ => false,
+    };
+    match lacks_object && random.chance(80) {
+        true => random.pick_weighted(&KINDS),
+        false => kind,
     }
 }
 
@@ -288,6 +307,10 @@ struct View<'s> {
     records: Vec<Record<'s>>,
     /// What conditions sent to it name.
     names: Names,
+}
+
+fn is_queue(record: &Record<'_>) -> bool {
+    record.queue().is_some()
 }
 
 /// All records, none if the store is malformed.
@@ -383,14 +406,19 @@ impl<'s> View<'s> {
         }
         let granted = |record: &Record<'_>| self.is_granted(*record, Slot::Read);
         let counts = |record: &Record<'_>| record.counter().is_some() && granted(record);
+        let queued = |record: &Record<'_>| is_queue(record) && granted(record);
         let has_data = |record: &Record<'_>| record.used() > 0 && granted(record);
         match random.below(100) {
             0..=27 => Target::Session(self.session_object_to_read(random)),
-            28..=42 => match self.pick_record(counts, random) {
+            28..=34 => match self.pick_record(queued, random) {
                 Some(record) => Target::Stored(record),
                 None => self.preferred_target(granted, random),
             },
-            43..=84 => self.preferred_target(has_data, random),
+            35..=46 => match self.pick_record(counts, random) {
+                Some(record) => Target::Stored(record),
+                None => self.preferred_target(granted, random),
+            },
+            47..=84 => self.preferred_target(has_data, random),
             _ => self.preferred_target(granted, random),
         }
     }
@@ -448,6 +476,52 @@ impl<'s> View<'s> {
 
     fn has_counter(&self) -> bool {
         self.records.iter().any(|record| record.counter().is_some())
+    }
+
+    fn has_queue(&self) -> bool {
+        self.records.iter().any(is_queue)
+    }
+
+    /// Mostly a queue: one that is ready and may be changed, often by using up counters,
+    /// or any; at times a counter or another target.
+    fn target_to_queue(
+        &self,
+        is_ready: impl Fn(Queue<'_>, &Record<'_>) -> bool,
+        random: &mut Random,
+    ) -> Target<'s> {
+        let judge = |record: &Record<'_>| {
+            let queue = record.queue().filter(|&queue| is_ready(queue, record));
+            queue.and_then(|_| self.judge(*record, Slot::Change))
+        };
+        let moves = |record: &Record<'_>| {
+            let judged = judge(record);
+            judged.is_some_and(|counters| !counters.numbers().is_empty())
+        };
+        let granted = |record: &Record<'_>| judge(record).is_some();
+        let picked = match random.below(20) {
+            0..=8 if !self.names.is_empty() => self.pick_record(moves, random),
+            0..=10 => self.pick_record(granted, random),
+            11..=16 => self.pick_record(is_queue, random),
+            17 => self.pick_record(|record| record.counter().is_some(), random),
+            _ => return self.target_to_change(random),
+        };
+        match picked.or_else(|| self.pick_record(is_queue, random)) {
+            Some(record) => Target::Stored(record),
+            None => self.target_to_change(random),
+        }
+    }
+
+    /// What plain writes are aimed at: few queues, as none takes any.
+    fn to_write(&self, random: &mut Random) -> View<'s> {
+        let mut records = self.records.clone();
+        if random.chance(80) {
+            records.retain(|record| !is_queue(record));
+        }
+        View {
+            state: self.state,
+            records,
+            names: self.names.clone(),
+        }
     }
 
     fn preferred_target(
@@ -638,6 +712,7 @@ fn boundary_length(offset: usize, used: usize, maximum: usize, random: &mut Rand
 }
 
 fn write(param: u8, view: &View<'_>, random: &mut Random) -> Vec<u8> {
+    let view = view.to_write(random);
     let target = view
         .own_target(random)
         .or_else(|| view.spent_target(random))
@@ -751,6 +826,46 @@ fn step(counter: Option<Counter>, random: &mut Random) -> u8 {
     }
 }
 
+/// An append; some bodies are empty or too long.
+fn append(view: &View<'_>, random: &mut Random) -> Vec<u8> {
+    let has_space = |queue: Queue<'_>, record: &Record<'_>| {
+        let least = record.used() + queue::fare_size(1);
+        least <= record.maximum() && queue.next_number() != SequenceNumber::LAST
+    };
+    let target = view.target_to_queue(has_space, random);
+    let left = match target {
+        Target::Stored(record) => record.maximum() - record.used(),
+        _ => random.between(0, 300),
+    };
+    let size = body_size(left, random);
+    let mut in_data = target.number().to_be_bytes().to_vec();
+    in_data.extend(match random.chance(10) {
+        true => vec![0; size],
+        false => random.bytes(size),
+    });
+    framed(SET, 0x04, &in_data)
+}
+
+/// An acknowledgement; some have another length than the row.
+fn acknowledge(view: &View<'_>, random: &mut Random) -> Vec<u8> {
+    let has_fare = |queue: Queue<'_>, _: &Record<'_>| queue.fares().next().is_some();
+    let target = view.target_to_queue(has_fare, random);
+    let queue = match target {
+        Target::Stored(record) => record.queue(),
+        _ => None,
+    };
+    let number = match queue {
+        Some(queue) => number_to_acknowledge(queue, random),
+        None => random.between(0, 9) as u32,
+    };
+    let mut in_data = target.number().to_be_bytes().to_vec();
+    in_data.extend_from_slice(&number.to_be_bytes());
+    if random.chance(6) {
+        in_data.resize(random.pick(&[2, 4, 5, 5, 7, 7, 8]), 0);
+    }
+    framed(SET, 0x05, &in_data)
+}
+
 fn session_write(state: &State, object: SessionObject, random: &mut Random) -> (usize, Vec<u8>) {
     let present = state.session.byte(object);
     let value = match random.below(10) {
@@ -791,10 +906,12 @@ fn unknown_param(view: &View<'_>, random: &mut Random) -> Vec<u8> {
     let cmd = random.pick(&[GET, GET, SET, SET, OPEN, CLOSE]);
     let known: &[u8] = match cmd {
         GET => &[0x00, 0x01],
-        SET => &[0x00, 0x01, 0x02, 0x40],
+        SET => &[0x00, 0x01, 0x02, 0x04, 0x05, 0x40],
         _ => &[0x00],
     };
-    let candidate = random.pick(&[0x01, 0x02, 0x03, 0x40, 0x41, 0x42, 0x80, 0xC0, 0xFF]);
+    let candidate = random.pick(&[
+        0x01, 0x02, 0x03, 0x04, 0x05, 0x06, 0x40, 0x41, 0x42, 0x44, 0x45, 0x80, 0xC0, 0xFF,
+    ]);
     let param = match known.contains(&candidate) {
         true => random.byte_outside(known),
         false => candidate,

@@ -3,11 +3,15 @@
 use crate::counter::{self, Counter, Direction};
 use crate::generator::expressions::expression;
 use crate::generator::names::Names;
+use crate::generator::queues::queue_maximum;
 use crate::generator::random::Random;
 use crate::generator::stores::{
     is_session_number, make_object, object_number, random_counter, Object,
 };
 use crate::store::{RecordKind, Slot};
+
+/// How many of a hundred objects are queues for sure.
+const QUEUES: usize = 22;
 
 /// Objects of a store with conditions on its counters.
 pub(super) fn counting_objects(random: &mut Random) -> Vec<Object> {
@@ -25,14 +29,17 @@ pub(super) fn objects_with_counters(random: &mut Random) -> Vec<Object> {
     let count = match random.below(8) {
         0 => random.between(1, 2),
         1 => random.between(12, 20),
-        _ => random.between(3, 11),
+        _ => random.between(4, 13),
     };
     let mut objects: Vec<Object> = numbers(count, random)
         .into_iter()
-        .map(|number| make_object(number, size(random), random))
+        .map(|number| match random.chance(QUEUES) {
+            true => Object::queue(number, queue_maximum(random), random),
+            false => make_object(number, size(random), random),
+        })
         .collect();
     for object in &mut objects {
-        if object.maximum == counter::SIZE {
+        if object.maximum == counter::SIZE && object.kind != RecordKind::Queue {
             set_kind(object, random);
         }
         if random.chance(40) {
@@ -64,6 +71,10 @@ pub(super) fn ask_counters(object: &mut Object, names: &Names, random: &mut Rand
             object.expressions[slot as usize] = expression(&names, random);
         }
     }
+    // Most queues may be changed for a while.
+    if object.kind == RecordKind::Queue && random.chance(60) {
+        object.expressions[Slot::Change as usize] = expression(&names.up_counters(), random);
+    }
 }
 
 fn size(random: &mut Random) -> usize {
@@ -87,7 +98,7 @@ pub fn near_counter(random: &mut Random) -> Counter {
         0 | 1 => threshold,
         2 | 3 => threshold.saturating_add(1 + random.below(4) as u32),
         4..=6 => threshold.saturating_sub(1),
-        7..=14 => threshold.saturating_sub(random.between(2, 9) as u32),
+        7..=12 => threshold.saturating_sub(random.between(2, 9) as u32),
         _ => threshold.saturating_sub(random.between(10, 60) as u32),
     };
     Counter {

@@ -40,15 +40,15 @@ fn naming_expression(names: &Names, random: &mut Random) -> Vec<u8> {
         true => most_ors,
         false => random.between(0, most_ors),
     };
-    let mut bytes = match random.chance(35) {
+    let mut bytes = match random.chance(46) {
         true => joined_counters(names, random),
         false => chain_with_ors(names, conditions, ors, random),
     };
     let grows = may_have_another_group(&bytes);
     match random.below(20) {
         0..=4 => leave_last_group(&mut bytes),
-        5 | 6 if grows => bytes = [&ALWAYS_TRUE[..], &[OR], &bytes].concat(),
-        7..=12 if grows => bytes.extend([&[OR], &ALWAYS_TRUE[..]].concat()),
+        5..=7 if grows => bytes = [&ALWAYS_TRUE[..], &[OR], &bytes].concat(),
+        8..=12 if grows => bytes.extend([&[OR], &ALWAYS_TRUE[..]].concat()),
         _ => {}
     }
     bytes
@@ -60,15 +60,22 @@ fn may_have_another_group(expression: &[u8]) -> bool {
     expression.len() < LONGEST && groups < MOST_GROUPS
 }
 
-/// Two or three counters in one group, often another one in a second group.
+/// One to three counters in one group, often another one in a second group.
 fn joined_counters(names: &Names, random: &mut Random) -> Vec<u8> {
     let mut made = Conditions::new(names);
     let mut bytes = counter_condition(made.number(random)).to_vec();
-    let mut joins = vec![AND; random.between(1, 2)];
+    let mut joins = match random.chance(22) {
+        true => vec![OR],
+        false => vec![AND; random.between(1, 2)],
+    };
     joins.extend(random.pick(&[None, Some(OR), Some(OR)]));
     for join in joins {
+        let condition = match join == AND && random.chance(16) {
+            true => ALWAYS_TRUE,
+            false => counter_condition(made.number(random)),
+        };
         bytes.push(join);
-        bytes.extend_from_slice(&counter_condition(made.number(random)));
+        bytes.extend_from_slice(&condition);
     }
     bytes
 }

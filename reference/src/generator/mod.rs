@@ -8,5 +8,6 @@ pub mod expressions;
 pub mod lists;
 pub mod mixes;
 pub mod names;
+pub mod queues;
 pub mod random;
 pub mod stores;

@@ -11,12 +11,15 @@ use crate::store::{Record, RecordKind, Slot};
 #[derive(Clone, Debug, Default)]
 pub struct Names {
     numbers: Vec<u16>,
+    /// Those of them that are numbers of up counters, each once.
+    up_counters: Vec<u16>,
 }
 
 /// How often a number stands among the names, by what has it.
 const UP_COUNTER: usize = 8;
 const DOWN_COUNTER: usize = 5;
 const DATA: usize = 1;
+const QUEUE: usize = 2;
 
 impl Names {
     pub fn none() -> Names {
@@ -27,7 +30,10 @@ impl Names {
     pub fn any(random: &mut Random) -> Names {
         let mut numbers = vec![0xFDFE, 0xFEFD, 0x4040];
         numbers.extend([object_number(random), random.number() as u16]);
-        Names { numbers }
+        Names {
+            numbers,
+            up_counters: Vec::new(),
+        }
     }
 
     /// Mostly up counters among these objects; also others, missing ones and the session's.
@@ -40,29 +46,33 @@ impl Names {
             .into_iter()
             .filter(|_| random.chance(70))
             .collect();
+        let mut up_counters = Vec::new();
         for (number, kind) in objects {
+            if kind == RecordKind::Counter(Direction::Up) {
+                up_counters.push(number);
+            }
             let weight = match kind {
                 RecordKind::Counter(Direction::Up) => UP_COUNTER,
                 RecordKind::Counter(Direction::Down) => DOWN_COUNTER,
                 RecordKind::Data => DATA,
+                RecordKind::Queue => QUEUE,
             };
             numbers.extend(vec![number; weight]);
         }
         for _ in 0..3 {
             numbers.push(missing(&numbers, random));
         }
-        Names { numbers }
+        Names {
+            numbers,
+            up_counters,
+        }
     }
 
     /// Those of the records of a store.
     pub fn of_records(records: &[Record<'_>], random: &mut Random) -> Names {
-        let objects = records.iter().map(|record| {
-            let kind = match record.counter() {
-                None => RecordKind::Data,
-                Some(counter) => RecordKind::Counter(counter.direction),
-            };
-            (record.object().0, kind)
-        });
+        let objects = records
+            .iter()
+            .filter_map(|record| Some((record.object().0, record.kind()?)));
         Names::of_objects(objects, random)
     }
 
@@ -72,14 +82,31 @@ impl Names {
         if !numbers.is_empty() {
             numbers.extend(vec![number; 1 + numbers.len() / 2]);
         }
-        Names { numbers }
+        Names {
+            numbers,
+            up_counters: self.up_counters.clone(),
+        }
     }
 
     /// Only the names that are wanted.
     pub fn only(&self, wanted: impl Fn(u16) -> bool) -> Names {
-        let mut numbers = self.numbers.clone();
-        numbers.retain(|&number| wanted(number));
-        Names { numbers }
+        let [numbers, up_counters] = [&self.numbers, &self.up_counters].map(|numbers| {
+            let mut numbers = numbers.clone();
+            numbers.retain(|&number| wanted(number));
+            numbers
+        });
+        Names {
+            numbers,
+            up_counters,
+        }
+    }
+
+    /// Only the up counters, or all names where there is none.
+    pub fn up_counters(&self) -> Names {
+        match self.up_counters.is_empty() {
+            true => self.clone(),
+            false => self.only(|number| self.up_counters.contains(&number)),
+        }
     }
 
     pub fn is_empty(&self) -> bool {

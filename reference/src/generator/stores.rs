@@ -7,8 +7,10 @@ use crate::engine;
 use crate::generator::counting::counting_objects;
 use crate::generator::expressions::{expression, BadExpression};
 use crate::generator::names::Names;
+use crate::generator::queues::{queue_data, queue_maximum, QueueDamage};
 use crate::generator::random::Random;
 use crate::kinds::ObjectNumber;
+use crate::queue;
 use crate::session::{Session, SessionObject, STATES};
 use crate::store::{
     Fault, RecordKind, Slot, DATA, KIND, LARGEST_MAXIMUM, LARGEST_STORE, LCSO, LENGTH,
@@ -19,6 +21,9 @@ use crate::store::{
 const SMALLEST_RECORD: usize = DATA + 1;
 /// The record of a counter.
 const COUNTER_RECORD: usize = DATA + counter::SIZE;
+
+/// How many of a hundred objects with room for a next number are queues.
+const QUEUES: usize = 30;
 
 /// An object before it is put into a store.
 #[derive(Clone, Debug)]
@@ -66,6 +71,34 @@ impl Object {
         }
     }
 
+    pub(super) fn queue(number: u16, maximum: usize, random: &mut Random) -> Object {
+        Object {
+            kind: RecordKind::Queue,
+            data: queue_data(maximum, random),
+            ..Object::new(number, maximum, random)
+        }
+    }
+
+    /// Makes the object a queue that breaks a single clause.
+    fn damage_queue(&mut self, damage: QueueDamage, random: &mut Random) {
+        let (maximum, data) = damage.make(random);
+        self.kind = RecordKind::Queue;
+        self.maximum = maximum;
+        self.data = data;
+    }
+
+    /// Often makes the object a counter or a queue.
+    fn change_kind(&mut self, random: &mut Random) {
+        match random.below(3) {
+            0 => {
+                let direction = random.pick(&Direction::ALL);
+                *self = Object::counter(self.number, direction, random);
+            }
+            1 => *self = Object::queue(self.number, queue_maximum(random), random),
+            _ => {}
+        }
+    }
+
     fn size(&self) -> usize {
         DATA + self.maximum
     }
@@ -105,9 +138,9 @@ pub fn valid_store(random: &mut Random) -> Vec<u8> {
     join(&valid_objects(random))
 }
 
-/// Objects of such a store; in a quarter of them conditions use up counters.
+/// Objects of such a store; in half of them conditions use up counters.
 fn valid_objects(random: &mut Random) -> Vec<Object> {
-    if random.chance(25) {
+    if random.chance(50) {
         return counting_objects(random);
     }
     let sizes = match random.below(20) {
@@ -126,11 +159,15 @@ fn make_objects(numbers: &[u16], sizes: &[usize], random: &mut Random) -> Vec<Ob
         .collect()
 }
 
-/// An object of this maximum; where it can be a counter, it mostly is one.
+/// An object of this maximum; where it can be a counter, it mostly is one, and where
+/// it can be a queue, often.
 pub(super) fn make_object(number: u16, maximum: usize, random: &mut Random) -> Object {
     if maximum == counter::SIZE && random.chance(80) {
         let direction = random.pick(&Direction::ALL);
         return Object::counter(number, direction, random);
+    }
+    if maximum >= queue::EMPTY && random.chance(QUEUES) {
+        return Object::queue(number, maximum, random);
     }
     Object::new(number, maximum, random)
 }
@@ -198,13 +235,14 @@ fn store_sizes(random: &mut Random) -> Vec<usize> {
     for place in 0..count {
         let reserved = (count - place - 1) * SMALLEST_RECORD;
         let limit = (left - reserved - DATA).min(LARGEST_MAXIMUM);
-        let size = match random.below(14) {
+        let size = match random.below(16) {
             0 => 1,
             1 => LARGEST_MAXIMUM,
             2 => random.between(LARGEST_MAXIMUM - 3, LARGEST_MAXIMUM),
             3 => random.between(1, LARGEST_MAXIMUM),
             4 | 5 => random.between(1, 140),
             6..=9 => random.between(1, 32),
+            10 | 11 => queue_maximum(random),
             _ => counter::SIZE,
         };
         sizes.push(size.min(limit));
@@ -279,9 +317,9 @@ impl fmt::Debug for KindNumber {
 }
 
 /// Unknown kinds near the known ones, by number, by bit or by order of bytes, and at the ends.
-const UNKNOWN_KINDS: [KindNumber; 12] = [
+const UNKNOWN_KINDS: [KindNumber; 13] = [
     KindNumber(0x0000),
-    KindNumber(0x0003),
+    KindNumber(0x0007),
     KindNumber(0x0005),
     KindNumber(0x0006),
     KindNumber(0x0008),
@@ -290,6 +328,7 @@ const UNKNOWN_KINDS: [KindNumber; 12] = [
     KindNumber(0x0102),
     KindNumber(0x0104),
     KindNumber(0x0200),
+    KindNumber(0x0300),
     KindNumber(0x0400),
     KindNumber(0xFFFF),
 ];
@@ -316,6 +355,7 @@ pub enum Damage {
     Expression(Slot, BadExpression),
     SlotLength(Slot),
     SlotTail(Slot),
+    Queue(QueueDamage),
     DataTail,
     NumbersEqual,
     NumbersFalling,
@@ -349,6 +389,7 @@ impl Damage {
         for slot in Slot::ALL {
             all.extend(BadExpression::ALL.map(|bad| Damage::Expression(slot, bad)));
         }
+        all.extend(QueueDamage::ALL.map(Damage::Queue));
         all
     }
 
@@ -370,6 +411,7 @@ impl Damage {
             Damage::ZeroByte => Fault::ZeroByte,
             Damage::Expression(slot, _) | Damage::SlotLength(slot) => Fault::Expression(slot),
             Damage::SlotTail(slot) => Fault::SlotTail(slot),
+            Damage::Queue(damage) => damage.fault(),
             Damage::DataTail => Fault::DataTail,
             Damage::NumbersEqual | Damage::NumbersFalling => Fault::Order,
         }
@@ -429,14 +471,11 @@ impl Damage {
                 object.maximum = LARGEST_MAXIMUM + 1;
             }
             Damage::UsedAboveMaximum => {
-                object.kind = RecordKind::Data;
+                object.kind = random.pick(&[RecordKind::Data, RecordKind::Queue]);
                 object.data = vec![0; object.maximum];
             }
-            // Half of them are counters but for their kind.
-            Damage::Kind(_) | Damage::AnyKind if random.chance(50) => {
-                let direction = random.pick(&Direction::ALL);
-                *object = Object::counter(object.number, direction, random);
-            }
+            Damage::Kind(_) | Damage::AnyKind => object.change_kind(random),
+            Damage::Queue(damage) => object.damage_queue(damage, random),
             Damage::CounterMaximum(direction) => {
                 *object = Object::counter(object.number, direction, random);
                 object.maximum = match random.below(4) {
@@ -529,7 +568,7 @@ impl Damage {
                 };
                 bytes[dirty] = random.nonzero_byte();
             }
-            Damage::DataTail => {
+            Damage::DataTail | Damage::Queue(QueueDamage::Tail) => {
                 let first = DATA + object.data.len();
                 let last = object.size() - 1;
                 let dirty = match random.below(3) {

@@ -44,6 +44,37 @@ pub fn counter_record(kind: u8, object: u16, value: u32, threshold: u32) -> Vec<
     bytes
 }
 
+/// The bytes of a fare.
+pub fn fare(number: u32, body: &[u8]) -> Vec<u8> {
+    let mut bytes = (8 + body.len() as u16).to_le_bytes().to_vec();
+    bytes.extend_from_slice(&[1, 0]);
+    bytes.extend_from_slice(&number.to_le_bytes());
+    bytes.extend_from_slice(body);
+    bytes
+}
+
+/// The used bytes of a queue: the next number, then the fares.
+pub fn queue_data(next: u32, fares: &[Vec<u8>]) -> Vec<u8> {
+    [&next.to_le_bytes()[..], &fares.concat()].concat()
+}
+
+/// The record of a queue with always in each slot and these used bytes.
+pub fn queue_record(object: u16, maximum: u16, used: &[u8]) -> Vec<u8> {
+    let mut bytes = Vec::new();
+    for number in [96 + maximum, 3, object, maximum, used.len() as u16] {
+        bytes.extend_from_slice(&number.to_le_bytes());
+    }
+    bytes.extend_from_slice(&[1, 0]);
+    for _ in 0..3 {
+        let start = bytes.len();
+        bytes.push(1);
+        bytes.resize(start + 28, 0);
+    }
+    bytes.extend_from_slice(used);
+    bytes.resize(96 + usize::from(maximum), 0);
+    bytes
+}
+
 #[derive(Clone, Debug, PartialEq, Eq)]
 pub struct Element {
     pub store: Vec<u8>,
@@ -204,6 +235,18 @@ pub fn erase_and_write(object: u16, offset: u16, bytes: &[u8]) -> Vec<u8> {
 
 pub fn count(object: u16, offset: u16, step: u8) -> Vec<u8> {
     set(0x02, object, offset, &[step])
+}
+
+pub fn append(object: u16, body: &[u8]) -> Vec<u8> {
+    let mut in_data = object.to_be_bytes().to_vec();
+    in_data.extend_from_slice(body);
+    command(0x02, 0x04, &in_data)
+}
+
+pub fn acknowledge(object: u16, number: u32) -> Vec<u8> {
+    let mut in_data = object.to_be_bytes().to_vec();
+    in_data.extend_from_slice(&number.to_be_bytes());
+    command(0x02, 0x05, &in_data)
 }
 
 /// A metadata write of this content, led by 20 and its length.

@@ -7,6 +7,7 @@ use crate::hex;
 use crate::list::Entry;
 use crate::metadata;
 use crate::names;
+use crate::queue::{self, Queue};
 
 /// What came of a command.
 #[derive(Debug, PartialEq, Eq)]
@@ -23,6 +24,8 @@ pub struct Exchange {
     pub counter: Option<Counter>,
     /// The bytes in use of the object that the command names, as the command leaves it.
     pub used: Option<usize>,
+    /// The queue that the command names, before it and after it.
+    pub queues: Option<(Queue, Queue)>,
     /// The counters that the conditions of the command's expression moved, by their numbers, as they stand then.
     pub steps: Vec<(u16, Counter)>,
     /// Where access is denied, the expression that was asked, if it names counters.
@@ -83,38 +86,57 @@ impl Exchange {
         self.steps.iter().map(step).collect()
     }
 
-    /// Why a count is refused, a write to a counter, a read past the bytes in use, or what names a counter; all else by the refusal's name.
+    /// Why a count is refused, a write to a counter, a read past the bytes in use, what a queue refuses, or what names a counter; all else by the
+    /// refusal's name.
     fn refused_in_words(&self, command: &[u8], number: u8) -> String {
-        let why = match (command::action(command), number, self.counter) {
-            (Some(Action::Count { .. }), 0x03, _) => "this object is no counter".into(),
-            (Some(Action::Count { offset: 1.. }), 0x08, _) => "a count is at offset 0".into(),
-            (Some(Action::Count { .. }), 0x08, Some(counter)) => {
-                format!("nothing to count, {}", counter.in_words())
-            }
-            (Some(Action::Write), 0x08, Some(_)) => {
-                "a write to a counter sets its 8 bytes at offset 0".into()
-            }
-            (Some(Action::Read { offset, .. }), 0x08, _) => match self.used {
-                Some(used) => format!(
-                    "offset {offset} is past the {} in use",
-                    names::count(used, "byte")
-                ),
-                None => return refusal(number),
-            },
-            _ => {
-                return match &self.asked {
-                    Some(asked) => format!("{} ({asked})", refusal(number)),
-                    None => refusal(number),
-                }
-            }
-        };
-        format!("{number:02X}: {why}")
+        let action = command::action(command);
+        match (action.and_then(|one| self.why(one, number)), &self.asked) {
+            (Some(why), _) => format!("{number:02X}: {why}"),
+            (None, Some(asked)) => format!("{} ({asked})", refusal(number)),
+            (None, None) => refusal(number),
+        }
     }
 
-    /// What a count or a write leaves in a counter, or a read of the whole of it gives; all else by the data. A read that gave less than it asked for
-    /// says so.
+    fn why(&self, action: Action, number: u8) -> Option<String> {
+        Some(match (action, number, self.counter) {
+            (Action::Count { .. }, 0x03, _) => "this object is no counter".into(),
+            (Action::Count { offset: 1.. }, 0x08, _) => "a count is at offset 0".into(),
+            (Action::Count { .. }, 0x08, Some(counter)) => {
+                format!("nothing to count, {}", counter.in_words())
+            }
+            (Action::Write, 0x08, Some(_)) => {
+                "a write to a counter sets its 8 bytes at offset 0".into()
+            }
+            (Action::Read { offset, .. }, 0x08, _) => format!(
+                "offset {offset} is past the {} in use",
+                names::count(self.used?, "byte")
+            ),
+            (Action::Append { .. } | Action::Acknowledge { .. }, 0x03, _) => {
+                "this object is no queue".into()
+            }
+            (Action::Append { body }, 0x04, _) => queue::body_fault(body)?,
+            _ => return self.why_of_queue(action, number),
+        })
+    }
+
+    fn why_of_queue(&self, action: Action, number: u8) -> Option<String> {
+        let (queue, _) = self.queues.as_ref()?;
+        match (action, number) {
+            (Action::Write, 0x07) => Some("plain writes to a queue are never granted".into()),
+            (Action::Append { body }, 0x08) => Some(queue.full(body)),
+            (Action::Append { .. }, 0x0D) => Some(queue.out_of_numbers()),
+            (Action::Acknowledge { number }, 0x05) => Some(queue.absent(number)),
+            _ => None,
+        }
+    }
+
+    /// What was done with a queue; what a count or a write leaves in a counter, or a read of the whole of it gives; all else by the data. A read that
+    /// gave less than it asked for says so.
     fn done_in_words(&self, command: &[u8]) -> String {
         let data = self.response.get(HEADER..).unwrap_or(&[]);
+        if let Some(words) = self.done_with_queue(command, data) {
+            return format!("done: {words}");
+        }
         match (command::action(command), self.counter, data.len()) {
             (Some(Action::Count { .. } | Action::Write), Some(counter), _) => {
                 format!("done: {}", counter.in_words())
@@ -127,6 +149,22 @@ impl Exchange {
                 )
             }
             _ => done(command, data),
+        }
+    }
+
+    /// What an append or an acknowledgement did, or what a read of the whole of a queue gives.
+    fn done_with_queue(&self, command: &[u8], data: &[u8]) -> Option<String> {
+        let (before, after) = self.queues.as_ref()?;
+        match command::action(command)? {
+            Action::Append { .. } => Some(before.appended(after)),
+            Action::Acknowledge { .. } => Some(before.acknowledged(after)),
+            Action::Read { offset: 0, length } if data.len() == before.used() => Some(format!(
+                "{}{}: {}",
+                names::count(data.len(), "byte"),
+                of_asked(length, data.len()),
+                before.listed()
+            )),
+            _ => None,
         }
     }
 }
@@ -221,6 +259,7 @@ mod tests {
             last_error: 0x08,
             counter: None,
             used: None,
+            queues: None,
             steps: Vec::new(),
             asked: None,
         };
@@ -244,6 +283,7 @@ mod tests {
             last_error: refused.unwrap_or(0),
             counter: Some(Counter { direction, state }),
             used: Some(COUNTER_SIZE),
+            queues: None,
             steps: Vec::new(),
             asked: None,
         };
@@ -267,6 +307,7 @@ mod tests {
             last_error: 0,
             counter: None,
             used: Some(2),
+            queues: None,
             steps: vec![(0xE120, at(2)), (0xE123, at(3))],
             asked: None,
         };
@@ -415,6 +456,7 @@ mod tests {
                 last_error: 0x08,
                 counter: None,
                 used,
+                queues: None,
                 steps: Vec::new(),
                 asked: None,
             };

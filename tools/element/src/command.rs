@@ -4,6 +4,7 @@ use element::Length;
 use crate::hex;
 use crate::metadata;
 use crate::names;
+use crate::queue;
 
 /// The bytes that open the application.
 const IDENTIFIER: &[u8] = b"\xD2\x76\x00\x00\x04GenAuthAppl";
@@ -24,6 +25,8 @@ pub fn in_words(command: &[u8]) -> String {
         (0x02, 0x40) => write("erase and write", data),
         (0x02, 0x01) => write_metadata(data),
         (0x02, 0x02) => count(data),
+        (0x02, 0x04) => append(data),
+        (0x02, 0x05) => acknowledge(data),
         (0x70, 0x00) => open(data),
         (0x71, 0x00) => close(data),
         (known, _) => unknown(known, *param),
@@ -49,6 +52,16 @@ pub enum Action {
         /// The place that it names.
         offset: u16,
     },
+    /// Appends a fare.
+    Append {
+        /// The bytes of its body.
+        body: usize,
+    },
+    /// Acknowledges fares.
+    Acknowledge {
+        /// The number of the last of them.
+        number: u32,
+    },
 }
 
 /// What a command of a whole header does with an object's data, if anything.
@@ -61,6 +74,10 @@ pub fn action(command: &[u8]) -> Option<Action> {
         [0x02 | 0x82, 0x00 | 0x40, _, _, ..] => Some(Action::Write),
         [0x02 | 0x82, 0x02, _, _, _, _, high, low, ..] => Some(Action::Count {
             offset: pair(high, low),
+        }),
+        [0x02 | 0x82, 0x04, _, _, _, _, body @ ..] => Some(Action::Append { body: body.len() }),
+        [0x02 | 0x82, 0x05, _, _, _, _, n1, n2, n3, n4] => Some(Action::Acknowledge {
+            number: u32::from_be_bytes([*n1, *n2, *n3, *n4]),
         }),
         _ => None,
     }
@@ -153,6 +170,28 @@ fn count(data: &[u8]) -> String {
     }
 }
 
+fn append(data: &[u8]) -> String {
+    match data {
+        [o1, o2, body @ ..] if queue::body_fault(body.len()).is_none() => format!(
+            "append to {}: {}",
+            names::object(pair(o1, o2)),
+            names::count(body.len(), "byte")
+        ),
+        _ => short("append", data, "3 to 202: object, a body of 1 to 200"),
+    }
+}
+
+fn acknowledge(data: &[u8]) -> String {
+    match data {
+        [o1, o2, n1, n2, n3, n4] => format!(
+            "acknowledge {} up to fare {}",
+            names::object(pair(o1, o2)),
+            u32::from_be_bytes([*n1, *n2, *n3, *n4])
+        ),
+        _ => short("acknowledge", data, "6: object, number"),
+    }
+}
+
 fn open(data: &[u8]) -> String {
     match data {
         IDENTIFIER => "open the application".into(),
@@ -175,7 +214,7 @@ fn close(data: &[u8]) -> String {
 fn unknown(cmd: u8, param: u8) -> String {
     let (name, expected) = match cmd {
         0x01 => ("get", "00 or 01"),
-        0x02 => ("set", "00, 01, 02 or 40"),
+        0x02 => ("set", "00, 01, 02, 04, 05 or 40"),
         0x70 => ("open", "00"),
         0x71 => ("close", "00"),
         _ => return format!("unknown Cmd {cmd:02X}, expected 01, 02, 70 or 71"),
@@ -220,6 +259,14 @@ mod tests {
         );
         assert_eq!(said("02 02 00 05 F1 D0 00 00 05"), "count F1D0 by 5");
         assert_eq!(
+            said("02 04 00 06 F1 D3 46 41 52 45"),
+            "append to F1D3: 4 bytes"
+        );
+        assert_eq!(
+            said("02 05 00 06 F1 D3 00 00 01 02"),
+            "acknowledge F1D3 up to fare 258"
+        );
+        assert_eq!(
             said("70 00 00 10 D2 76 00 00 04 47 65 6E 41 75 74 68 41 70 70 6C"),
             "open the application"
         );
@@ -241,7 +288,20 @@ mod tests {
             of("02 02 00 05 F1 D0 01 02 05"),
             Some(Action::Count { offset })
         );
+        assert_eq!(
+            of("82 04 00 04 F1 D3 46 41"),
+            Some(Action::Append { body: 2 })
+        );
+        assert_eq!(
+            of("02 05 00 06 F1 D3 FF 00 00 01"),
+            Some(Action::Acknowledge {
+                number: 0xFF00_0001
+            })
+        );
         for text in [
+            "02 04 00 01 F1",
+            "02 05 00 05 F1 D3 00 00 01",
+            "02 05 00 07 F1 D3 00 00 00 00 01",
             "01 00 00 05 F1 D0 01 02 03",
             "01 01 00 02 F1 D0",
             "02 01 00 02 F1 D0",
@@ -268,7 +328,7 @@ mod tests {
         );
         assert_eq!(
             said("02 03 00 00"),
-            "set with unknown Param 03, expected 00, 01, 02 or 40"
+            "set with unknown Param 03, expected 00, 01, 02, 04, 05 or 40"
         );
         assert_eq!(
             said("71 00 00 01"),
@@ -297,6 +357,24 @@ mod tests {
         assert_eq!(
             said("70 00 00 01 D2"),
             "open with 1 byte of InData, expected 16: the identifier"
+        );
+    }
+
+    #[test]
+    fn commands_for_a_queue_that_fit_no_row() {
+        let append = "append with 2 bytes of InData, expected 3 to 202: object, a body of 1 to 200";
+        assert_eq!(said("02 04 00 02 F1 D3"), append);
+        assert_eq!(
+            said(&format!("02 04 00 CB F1 D3 {}", "00".repeat(201))),
+            append.replace("with 2", "with 203")
+        );
+        assert_eq!(
+            said(&format!("02 04 00 CA F1 D3 {}", "00".repeat(200))),
+            "append to F1D3: 200 bytes"
+        );
+        assert_eq!(
+            said("02 05 00 05 F1 D3 00 00 01"),
+            "acknowledge with 5 bytes of InData, expected 6: object, number"
         );
     }
 }

@@ -1,11 +1,12 @@
 //! Descriptions: an object to a line, and the store that they describe.
-use element::{kind, COUNTER_SIZE};
+use element::{kind, COUNTER_SIZE, QUEUE_HEAD};
 
 use crate::counter::{Counter, Direction};
 use crate::expression;
 use crate::faults;
 use crate::hex;
 use crate::names;
+use crate::queue::{self, Fare, Queue};
 use crate::record::{self, Record, HEAD, LARGEST_OBJECT, SLOT};
 use crate::scan::{self, Scan};
 use crate::trouble::Slip;
@@ -25,6 +26,7 @@ struct Described {
 enum Front {
     Maximum(u16),
     Counter(Counter),
+    Queue { next: Option<u32>, maximum: u16 },
 }
 
 /// The store that a text describes, or the first slip of each line that has one.
@@ -65,14 +67,7 @@ fn described(mut scan: Scan, before: Option<u16>) -> Result<Described, Slip> {
         keyword(&mut scan, name)?;
         *slot = read_expression(&mut scan)?;
     }
-    let (kind, maximum, data) = match front {
-        Front::Maximum(maximum) => (kind::DATA, maximum.into(), read_data(&mut scan, maximum)?),
-        Front::Counter(counter) => {
-            scan.end("the end of the line")?;
-            let data = counter.state.to_bytes().to_vec();
-            (counter.direction.kind(), COUNTER_SIZE, data)
-        }
-    };
+    let (kind, maximum, data) = read_rest(&mut scan, front)?;
     Ok(Described {
         object,
         kind,
@@ -83,21 +78,73 @@ fn described(mut scan: Scan, before: Option<u16>) -> Result<Described, Slip> {
     })
 }
 
-/// `maximum COUNT`, or `counter DIRECTION value NUMBER threshold NUMBER`.
+/// `maximum COUNT`, `counter DIRECTION value NUMBER threshold NUMBER`, or `queue next NUMBER maximum COUNT`.
 fn read_front(scan: &mut Scan) -> Result<Front, Slip> {
-    let is_counter = scan.one_of("maximum or counter", |word| {
-        match word.to_ascii_lowercase().as_str() {
-            "maximum" => Some(false),
-            "counter" => Some(true),
-            _ => None,
-        }
-    })?;
-    match is_counter {
-        true => read_counter(scan).map(Front::Counter),
-        false => scan
-            .one_of(&format!("a number from 1 to {LARGEST_OBJECT}"), maximum)
-            .map(Front::Maximum),
+    match word_of(
+        scan,
+        "maximum, counter or queue",
+        &["maximum", "counter", "queue"],
+    )? {
+        "counter" => read_counter(scan).map(Front::Counter),
+        "queue" => read_queue(scan),
+        _ => read_maximum(scan, 1).map(Front::Maximum),
     }
+}
+
+/// `next` may be left out.
+fn read_queue(scan: &mut Scan) -> Result<Front, Slip> {
+    let mut next = None;
+    if word_of(scan, "next or maximum", &["next", "maximum"])? == "next" {
+        next = Some(read_number(scan)?);
+        keyword(scan, "maximum")?;
+    }
+    let maximum = read_maximum(scan, QUEUE_HEAD)?;
+    Ok(Front::Queue { next, maximum })
+}
+
+/// What stands behind the expressions: the data of an object, nothing of a counter, the fares of a queue. Gives kind, maximum and data.
+fn read_rest(scan: &mut Scan, front: Front) -> Result<(u16, usize, Vec<u8>), Slip> {
+    match front {
+        Front::Maximum(maximum) => {
+            let data = read_data(scan, maximum)?;
+            Ok((kind::DATA, maximum.into(), data))
+        }
+        Front::Counter(counter) => {
+            scan.end("the end of the line")?;
+            let data = counter.state.to_bytes().to_vec();
+            Ok((counter.direction.kind(), COUNTER_SIZE, data))
+        }
+        Front::Queue { next, maximum } => {
+            let queue = read_fares(scan, next, maximum.into())?;
+            Ok((kind::QUEUE, queue.maximum, queue.bytes()))
+        }
+    }
+}
+
+/// `fare HEX`, as often as there are fares; one that does not fit is told by its column.
+fn read_fares(scan: &mut Scan, next: Option<u32>, maximum: usize) -> Result<Queue, Slip> {
+    let mut bodies = Vec::new();
+    while !scan.is_end() {
+        let column = scan.column();
+        bodies.push(read_body(scan)?);
+        Queue::numbered(&bodies, next, maximum).map_err(|why| Slip::at(column, why))?;
+    }
+    Queue::numbered(&bodies, next, maximum).map_err(|why| Slip::at(scan.column(), why))
+}
+
+fn read_body(scan: &mut Scan) -> Result<Vec<u8>, Slip> {
+    word_of(scan, "fare or the end of the line", &["fare"])?;
+    let column = scan.column();
+    let body = scan.hex_before("fare")?;
+    match queue::body_fault(body.len()) {
+        None => Ok(body),
+        Some(why) => Err(Slip::at(column, why)),
+    }
+}
+
+fn read_maximum(scan: &mut Scan, least: usize) -> Result<u16, Slip> {
+    let expected = format!("a number from {least} to {LARGEST_OBJECT}");
+    scan.one_of(&expected, |word| maximum(word, least))
 }
 
 fn read_counter(scan: &mut Scan) -> Result<Counter, Slip> {
@@ -117,14 +164,22 @@ fn read_number(scan: &mut Scan) -> Result<u32, Slip> {
     })
 }
 
+/// Takes one of some words, in any case.
+fn word_of<'w>(scan: &mut Scan, expected: &str, words: &[&'w str]) -> Result<&'w str, Slip> {
+    scan.one_of(expected, |found| {
+        let known = words.iter().find(|word| found.eq_ignore_ascii_case(word));
+        known.copied()
+    })
+}
+
 fn keyword(scan: &mut Scan, word: &str) -> Result<(), Slip> {
     scan.one_of(word, |found| found.eq_ignore_ascii_case(word).then_some(()))
 }
 
-fn maximum(word: &str) -> Option<u16> {
+fn maximum(word: &str, least: usize) -> Option<u16> {
     let digits = word.chars().all(|c| c.is_ascii_digit());
     let value = digits.then(|| word.parse::<u16>().ok()).flatten()?;
-    (1..=LARGEST_OBJECT)
+    (least..=LARGEST_OBJECT)
         .contains(&usize::from(value))
         .then_some(value)
 }
@@ -192,11 +247,10 @@ pub fn of_store(store: &[u8]) -> String {
 }
 
 fn line(record: &Record) -> String {
-    let counter = Counter::of(record);
+    let (front, rest) = front_and_rest(record);
     let mut line = format!(
-        "{:04X} {} lcso {}",
+        "{:04X} {front} lcso {}",
         record.object(),
-        front(record, counter),
         names::state(record.lcso()).unwrap_or("(no state)")
     );
     for (index, name) in names::SLOTS.iter().enumerate() {
@@ -206,24 +260,29 @@ fn line(record: &Record) -> String {
             false => format!(" {name} {text}"),
         });
     }
-    if counter.is_none() && !record.data().is_empty() {
-        line.push_str(" data ");
-        line.push_str(&hex::spaced(record.data()));
-    }
+    line.push_str(&rest);
     line.push('\n');
     line
 }
 
-fn front(record: &Record, counter: Option<Counter>) -> String {
-    match counter {
-        Some(Counter { direction, state }) => format!(
-            "counter {} value {} threshold {}",
-            direction.name(),
-            state.value,
-            state.threshold
-        ),
-        None => format!("maximum {}", record.maximum()),
+/// What stands before LcsO, and what behind the expressions.
+fn front_and_rest(record: &Record) -> (String, String) {
+    if let Some(Counter { direction, state }) = Counter::of(record) {
+        let element::Counter { value, threshold } = state;
+        let name = direction.name();
+        let front = format!("counter {name} value {value} threshold {threshold}");
+        return (front, String::new());
     }
+    if let Some(queue) = Queue::of(record) {
+        let fare = |fare: &Fare| format!(" fare {}", hex::spaced(&fare.body));
+        let front = format!("queue next {} maximum {}", queue.next, queue.maximum);
+        return (front, queue.fares.iter().map(fare).collect());
+    }
+    let data = match record.data() {
+        [] => String::new(),
+        data => format!(" data {}", hex::spaced(data)),
+    };
+    (format!("maximum {}", record.maximum()), data)
 }
 
 #[cfg(test)]
@@ -235,6 +294,7 @@ mod tests {
     const UP: &str = "F1D0 counter up value 12 threshold 300 lcso operational change always read always execute never";
     const DOWN: &str =
         "F1D1 counter down value 10 threshold 0 lcso creation change \"LcsO < operational\" read always execute never";
+    const QUEUE: &str = "F1D3 queue next 3 maximum 64 lcso operational change always read always execute never fare 46 41 52 45 fare 54 57 4F";
     const LINE: &str = "F1D0 maximum 140 lcso creation change \"LcsO < operational\" read always execute never data 01 02";
 
     fn slip(text: &str) -> (usize, usize, String) {
@@ -287,6 +347,53 @@ mod tests {
     }
 
     #[test]
+    fn a_queues_line_becomes_a_record() {
+        let store = to_store(QUEUE).unwrap();
+        assert!(check::is_well_formed(&store));
+        assert_eq!(store.len(), 160);
+        let front = [0xA0, 0, 3, 0, 0xD3, 0xF1, 64, 0, 27, 0, 7, 0, 1, 0];
+        assert_eq!(store[..14], front);
+        let next_and_first = [3, 0, 0, 0, 12, 0, 1, 0, 1, 0, 0, 0, 0x46, 0x41, 0x52, 0x45];
+        assert_eq!(store[96..112], next_and_first);
+        let second = [11, 0, 1, 0, 2, 0, 0, 0, 0x54, 0x57, 0x4F];
+        assert_eq!(store[112..123], second);
+        assert_eq!(store[123..], [0; 37]);
+        let written = of_store(&store);
+        assert_eq!(written, format!("# 1 object, 160 bytes\n{QUEUE}\n"));
+    }
+
+    #[test]
+    fn every_queue_goes_both_ways() {
+        let front =
+            "F1D3 queue next N maximum 1500 lcso creation change always read never execute never";
+        for (next, body) in [("0", 0), ("1", 1), ("2", 200), ("4294967295", 9)] {
+            let mut line = front.replace('N', next);
+            if body > 0 {
+                line.push_str(&format!(" fare {}", ["A5"].repeat(body).join(" ")));
+            }
+            let store = to_store(&line).unwrap();
+            assert!(check::is_well_formed(&store), "{line}");
+            let written = of_store(&store);
+            assert_eq!(written, format!("# 1 object, 1596 bytes\n{line}\n"));
+        }
+        let loose = "f1d3\tQueue NEXT 003 Maximum 64 LCSO 07 change ALWAYS read always execute \"never\" FARE 46415245 Fare 5457 4f # x";
+        assert_eq!(to_store(loose), to_store(QUEUE));
+    }
+
+    #[test]
+    fn without_a_next_number_fares_begin_at_0() {
+        let unnumbered = QUEUE.replace("next 3 ", "");
+        assert_eq!(
+            to_store(&unnumbered),
+            to_store(&QUEUE.replace("next 3", "next 2"))
+        );
+        let (front, _) = unnumbered.split_once(" fare").unwrap();
+        let store = to_store(front).unwrap();
+        assert_eq!((store[8], &store[96..104]), (4, &[0; 8][..]));
+        assert!(of_store(&store).contains("F1D3 queue next 0 maximum 64 lcso"));
+    }
+
+    #[test]
     fn the_factory_store_is_described() {
         let mut store = vec![0; FACTORY_STORE_SIZE];
         let mut session = Session::fresh();
@@ -321,7 +428,7 @@ mod tests {
             "F1D0 max 1",
             1,
             6,
-            "'max' stands here, expected maximum or counter",
+            "'max' stands here, expected maximum, counter or queue",
         ),
         (
             "F1D0 maximum 0",
@@ -446,6 +553,94 @@ mod tests {
         let (line, column, why) = slip("\nF1C0 counter up value 0 threshold 1");
         assert_eq!((line, column), (2, 1));
         assert!(why.starts_with("object F1C0 is LcsA"), "{why}");
+    }
+
+    /// What is replaced in the line of a queue, by what, and the column and words that follow.
+    const QUEUES: [(&str, &str, usize, &str); 13] = [
+        (
+            "next 3",
+            "3",
+            12,
+            "'3' stands here, expected next or maximum",
+        ),
+        (
+            "3 maximum",
+            "-1 maximum",
+            17,
+            "'-1' stands here, expected a number from 0 to 4294967295",
+        ),
+        ("maximum 64", "64", 19, "'64' stands here, expected maximum"),
+        (
+            "64",
+            "3",
+            27,
+            "'3' stands here, expected a number from 4 to 1500",
+        ),
+        (
+            "64",
+            "1501",
+            27,
+            "'1501' stands here, expected a number from 4 to 1500",
+        ),
+        (
+            "fare 46",
+            "data 46",
+            87,
+            "'data' stands here, expected fare or the end of the line",
+        ),
+        (
+            "46 41 52 45 ",
+            "",
+            92,
+            "0 bytes of a fare's body, expected 1 to 200",
+        ),
+        (
+            "54 57 4F",
+            "",
+            109,
+            "0 bytes of a fare's body, expected 1 to 200",
+        ),
+        (
+            "57 4F",
+            "57 4",
+            115,
+            "half a byte: one hex digit stands alone, expected two to a byte",
+        ),
+        (
+            "54 57",
+            "\"TW",
+            109,
+            "'\"' is no hex digit, expected 0 to 9 or A to F",
+        ),
+        (
+            "next 3",
+            "next 1",
+            104,
+            "2 fares with the next number 1, expected at most 1",
+        ),
+        (
+            "next 3",
+            "next 0",
+            87,
+            "1 fare with the next number 0, expected at most 0",
+        ),
+        (
+            "64",
+            "26",
+            104,
+            "the next number and 2 fares take 27 bytes, expected at most the maximum of 26",
+        ),
+    ];
+
+    #[test]
+    fn slips_of_queues_have_line_and_column() {
+        for (old, new, column, why) in QUEUES {
+            let text = QUEUE.replacen(old, new, 1);
+            assert_eq!(slip(&text), (1, column, why.to_owned()), "{text}");
+        }
+        let long = QUEUE.replace("54 57 4F", &"A5".repeat(201));
+        let why = "201 bytes of a fare's body, expected 1 to 200";
+        assert_eq!(slip(&long), (1, 109, why.to_owned()));
     }
 
     #[test]

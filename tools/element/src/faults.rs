@@ -1,9 +1,10 @@
 //! What is malformed in a store: which record, and why.
-use element::COUNTER_SIZE;
+use element::{kind, COUNTER_SIZE, QUEUE_HEAD};
 
 use crate::counter::Direction;
 use crate::expression;
 use crate::names;
+use crate::queue::Queue;
 use crate::record::{
     length_at, records, Record, HEAD, KINDS, LARGEST_OBJECT, LARGEST_STORE, RECORDS, SLOT,
 };
@@ -103,6 +104,7 @@ fn record_faults(record: &Record, before: Option<u16>) -> Vec<String> {
     for (index, name) in names::SLOTS.iter().enumerate() {
         faults.extend(slot_fault(record.slot(index)).map(|why| format!("{name} slot: {why}")));
     }
+    faults.extend(queue_fault(record));
     faults.extend(tail_fault(record));
     faults
 }
@@ -112,7 +114,7 @@ fn number_faults(record: &Record) -> Vec<String> {
     let (maximum, length) = (record.maximum(), record.bytes.len());
     if !KINDS.contains(&record.kind()) {
         faults.push(format!(
-            "kind {:04X}, expected 0001, 0002 or 0004",
+            "kind {:04X}, expected 0001, 0002, 0003 or 0004",
             record.kind()
         ));
     }
@@ -132,14 +134,22 @@ fn is_counter(record: &Record) -> bool {
     Direction::of_kind(record.kind()).is_some()
 }
 
+fn is_queue(record: &Record) -> bool {
+    record.kind() == kind::QUEUE
+}
+
 fn maximum_fault(record: &Record) -> Option<String> {
     let maximum = record.maximum();
     if is_counter(record) {
         return (maximum != COUNTER_SIZE)
             .then(|| format!("maximum {maximum} of a counter, expected {COUNTER_SIZE}"));
     }
-    (!(1..=LARGEST_OBJECT).contains(&maximum))
-        .then(|| format!("maximum {maximum}, expected 1 to {LARGEST_OBJECT}"))
+    let (of_what, least) = match is_queue(record) {
+        true => (" of a queue", QUEUE_HEAD),
+        false => ("", 1),
+    };
+    (!(least..=LARGEST_OBJECT).contains(&maximum))
+        .then(|| format!("maximum {maximum}{of_what}, expected {least} to {LARGEST_OBJECT}"))
 }
 
 fn used_fault(record: &Record) -> Option<String> {
@@ -149,6 +159,14 @@ fn used_fault(record: &Record) -> Option<String> {
             .then(|| format!("used {used} of a counter, expected {COUNTER_SIZE}"));
     }
     (used > maximum).then(|| format!("used {used}, expected at most the maximum of {maximum}"))
+}
+
+/// What stands in a queue, where all its bytes in use are there.
+fn queue_fault(record: &Record) -> Option<String> {
+    let (data, maximum) = (record.data(), record.maximum());
+    (is_queue(record) && data.len() == record.used() && data.len() <= maximum)
+        .then(|| Queue::read(data, maximum).err())
+        .flatten()
 }
 
 /// Why an object number may not stand in a store behind the one before it.
@@ -234,8 +252,8 @@ mod tests {
 
     /// A byte of the small store, its new value, and what is said of it.
     const CHANGES: [(usize, u8, &str); 14] = [
-        (2, 3, "kind 0003, expected 0001, 0002 or 0004"),
-        (3, 1, "kind 0101, expected 0001, 0002 or 0004"),
+        (2, 5, "kind 0005, expected 0001, 0002, 0003 or 0004"),
+        (3, 1, "kind 0101, expected 0001, 0002, 0003 or 0004"),
         (6, 5, "length 100 with a maximum of 5, expected 101"),
         (7, 6, "maximum 1540, expected 1 to 1500"),
         (8, 5, "used 5, expected at most the maximum of 4"),
@@ -309,7 +327,7 @@ mod tests {
 
     /// A byte of the counter's store, its new value, and what is said of it.
     const OF_A_COUNTER: [(usize, u8, &str); 7] = [
-        (2, 6, "kind 0006, expected 0001, 0002 or 0004"),
+        (2, 6, "kind 0006, expected 0001, 0002, 0003 or 0004"),
         (6, 9, "maximum 9 of a counter, expected 8"),
         (6, 0, "maximum 0 of a counter, expected 8"),
         (8, 7, "used 7 of a counter, expected 8"),
@@ -339,6 +357,126 @@ mod tests {
             [
                 "maximum 4 of a counter, expected 8",
                 "used 2 of a counter, expected 8"
+            ]
+        );
+    }
+
+    /// A store of a queue of 32 bytes: fares 1 and 2 with a body of a byte each, the next number 3.
+    fn queue() -> Vec<u8> {
+        let mut store = vec![128, 0, 3, 0, 0xD3, 0xF1, 32, 0, 22, 0, 1, 0];
+        for _ in 0..3 {
+            store.push(1);
+            store.resize(store.len() + SLOT - 1, 0);
+        }
+        store.extend([3, 0, 0, 0, 9, 0, 1, 0, 1, 0, 0, 0, 0x41]);
+        store.extend([9, 0, 1, 0, 2, 0, 0, 0, 0]);
+        store.resize(128, 0);
+        store
+    }
+
+    #[test]
+    fn any_next_number_of_an_empty_queue_is_sound() {
+        assert!(is_well_formed(&queue()));
+        assert_eq!(faults(&queue()), []);
+        let mut store = queue();
+        store[8] = 4;
+        store[96..118].fill(0);
+        for next in [0, 1, 3, 0x0102_0304, u32::MAX] {
+            store[96..100].copy_from_slice(&next.to_le_bytes());
+            assert!(is_well_formed(&store), "{next}");
+            assert_eq!(faults(&store), []);
+        }
+    }
+
+    /// A byte of the queue's store, its new value, and what is said of it.
+    const OF_A_QUEUE: [(usize, u8, &str); 12] = [
+        (8, 33, "used 33, expected at most the maximum of 32"),
+        (
+            8,
+            21,
+            "fare 2 at byte 13 of the data: cut short, 8 bytes in use from there on, expected a fare of at least 9",
+        ),
+        (
+            8,
+            23,
+            "fare 3 at byte 22 of the data: cut short, 1 byte in use from there on, expected a fare of at least 9",
+        ),
+        (
+            96,
+            1,
+            "2 fares with the next number 1, expected at most 1",
+        ),
+        (
+            96,
+            4,
+            "the last fare has number 2, expected 3, just below the next number 4",
+        ),
+        (
+            100,
+            8,
+            "fare 1 at byte 4 of the data: length 8, expected 9 to 208",
+        ),
+        (
+            109,
+            209,
+            "fare 2 at byte 13 of the data: length 209, expected 9 to 208",
+        ),
+        (
+            109,
+            10,
+            "fare 2 at byte 13 of the data: length 10, but only 9 bytes are in use from there on",
+        ),
+        (
+            102,
+            3,
+            "fare 1 at byte 4 of the data: kind 0003, expected 0001",
+        ),
+        (
+            113,
+            3,
+            "fare 2 at byte 13 of the data: number 3, expected 2",
+        ),
+        (
+            104,
+            2,
+            "fare 1 at byte 4 of the data: number 2, expected 1",
+        ),
+        (
+            118,
+            9,
+            "09 at byte 22 of the data, expected 00 past the 22 in use",
+        ),
+    ];
+
+    #[test]
+    fn each_fault_of_a_queue_is_told() {
+        for (at, byte, why) in OF_A_QUEUE {
+            let mut store = queue();
+            store[at] = byte;
+            assert!(!is_well_formed(&store), "byte {at} is {byte:02X}");
+            let told: Vec<String> = faults(&store).iter().map(Fault::line).collect();
+            assert_eq!(told, [format!("record 1 (F1D3) at byte 0: {why}")]);
+        }
+    }
+
+    #[test]
+    fn a_queue_has_at_least_its_next_number() {
+        let mut store = small();
+        store[2] = 3;
+        let told = |store: &[u8]| -> Vec<String> {
+            assert!(!is_well_formed(store));
+            faults(store).into_iter().map(|fault| fault.why).collect()
+        };
+        assert_eq!(told(&store), ["used 2 of a queue, expected at least 4"]);
+        store[8] = 4;
+        assert!(is_well_formed(&store));
+        store.pop();
+        (store[0], store[6], store[8]) = (99, 3, 3);
+        assert_eq!(
+            told(&store),
+            [
+                "maximum 3 of a queue, expected 4 to 1500",
+                "used 3 of a queue, expected at least 4"
             ]
         );
     }

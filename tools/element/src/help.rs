@@ -48,6 +48,7 @@ Makes a store from a description, one object to a line, numbers rising:
   F1D0 maximum 140 lcso creation change \"LcsO < operational\" read always execute always data 01 02
   F1D1 counter up value 12 threshold 300 lcso operational change always read always execute never
   F1D2 maximum 16 lcso operational change never read \"counter F1D1\" execute never data 54 49 43 4B 45 54
+  F1D3 queue next 3 maximum 64 lcso operational change always read always execute never fare 46 41 52 45 fare 54 57 4F
 
 usage: element make FILE DESCRIPTION [--force]
 
@@ -55,17 +56,22 @@ usage: element make FILE DESCRIPTION [--force]
 
   line        NUMBER maximum COUNT lcso STATE change EXPRESSION read EXPRESSION execute EXPRESSION [data HEX]
   counter     NUMBER counter DIRECTION value VALUE threshold VALUE lcso STATE and the three EXPRESSIONs as above
+  queue       NUMBER queue [next VALUE] maximum COUNT lcso STATE and the three EXPRESSIONs; [fare HEX] for each fare
   NUMBER      four hex digits; E0C0, F1C0 and F1C2 live in the session and may not stand here
-  COUNT       1 to 1500
+  COUNT       1 to 1500; of a queue at least 4
   DIRECTION   up or down
   VALUE       0 to 4294967295; any value may stand with any threshold
   STATE       creation (01), initialisation (03), operational (07) or termination (0F), by name or number
   EXPRESSION  always, never, or in quotes: conditions joined by and and or; and binds first
   condition   LcsG, LcsA or LcsO; then =, > or <; then a STATE. Or: counter NUMBER
-  HEX         the bytes in use, two digits each, with or without blanks between; without data none is in use
+  HEX         the bytes in use, two digits each, with or without blanks between; without data none is in use.
+              Behind fare the bytes of its body, 1 to 200
 
 `counter E120` holds while the counter up of that number is below its threshold, and each command that it
 grants uses it up by one. It may name any number; where no counter up has it, it does not hold.
+The fares of a queue are numbered by ones, the last of them just below next, which is the number that the
+next fare gets; without next they are numbered from 0 on. Each takes 8 bytes and its body, and next takes 4:
+together at most the maximum.
 At most 7 conditions and 3 groups joined by or; at most 32 objects and 16384 bytes. Case does not matter.
 A note begins with # and runs to the end of its line. DESCRIPTION may be - for standard input.
 `element show FILE --description` writes such a text; what is made from it has the same bytes.
@@ -88,6 +94,8 @@ pub const SHOW: &str = "\
 Shows the session and each object: number, kind, how full it is, used and maximum, LcsO, the three
 expressions, and the data in use as rows of place, hex and text.
 
+Of a queue it shows how many bytes are in use and free (a fare takes 8 and its body), the number that the
+next fare gets, which fares are present, and each with its number and its body as rows.
 Of a counter it shows the direction, value and threshold, and how many steps of 1 are left to go, or that it
 is at or past its threshold. The bar of a counter up is its value as a part of its threshold, full from there
 on. A counter down has no bar: its first value is not kept, so that only what is left to go is known.
@@ -110,6 +118,9 @@ from its offset on and may give fewer than it asked for: then both counts are sh
 A command that is granted by conditions on counters moves these by one, a read too: each that moves is shown as
 it stands then, behind the answer, which shows a counter before its step. Where access is denied by an
 expression that names counters, it is shown with how far they are.
+Of an append it shows the number that the fare got, of an acknowledgement which fares are gone; then those
+that are present, and how many bytes are free. Refused, it shows what was missing: the bytes needed and free
+(08), a number to give (0D), the fare of that number (05). A queue that is read whole is shown fare by fare.
 
 usage: element run FILE LIST [--dry] [--accept-refusals] [--plain] [--room BYTES]
 

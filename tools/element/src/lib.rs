@@ -26,6 +26,7 @@ pub mod list;
 pub mod make;
 pub mod metadata;
 pub mod names;
+pub mod queue;
 pub mod record;
 pub mod run;
 pub mod scan;

@@ -14,7 +14,12 @@ pub const RECORDS: usize = 32;
 /// The most bytes of a store.
 pub const LARGEST_STORE: usize = 16384;
 /// The kinds of records.
-pub const KINDS: [u16; 3] = [kind::DATA, kind::COUNTER_UP, kind::COUNTER_DOWN];
+pub const KINDS: [u16; 4] = [
+    kind::DATA,
+    kind::COUNTER_UP,
+    kind::QUEUE,
+    kind::COUNTER_DOWN,
+];
 
 const FIRST_SLOT: usize = 12;
 

@@ -14,6 +14,7 @@ use crate::files;
 use crate::keep::{Kept, Place};
 use crate::list::{self, Entry};
 use crate::names;
+use crate::queue::Queue;
 use crate::record;
 use crate::trouble::{Report, Status, Trouble};
 
@@ -72,6 +73,7 @@ pub fn run(file: &Path, list: &Path, options: &Options) -> Result<Report, Troubl
 pub fn send(kept: &mut Kept, command: &[u8], room: usize) -> Exchange {
     let mut room = vec![0; room];
     let before = counter::all(&kept.store);
+    let queue = queue_named(&kept.store, command);
     let answer = Element::new(&mut kept.store, &mut kept.session).send(command, &mut room);
     let (outcome, response) = (answer.outcome, answer.response.to_vec());
     let refused =
@@ -87,6 +89,7 @@ pub fn send(kept: &mut Kept, command: &[u8], room: usize) -> Exchange {
         last_error: kept.session.error,
         counter: counter_named(&due, command),
         used: used_named(&kept.store, command),
+        queues: queue.zip(queue_named(&kept.store, command)),
         steps: steps(&due, &kept.store),
         asked: match refused {
             Some(ACCESS_DENIED) => asked(&kept.store, command),
@@ -144,6 +147,10 @@ fn counter_named(counters: &[(u16, Counter)], command: &[u8]) -> Option<Counter>
     let object = command::object(command)?;
     let (_, counter) = counters.iter().find(|(number, _)| *number == object)?;
     Some(*counter)
+}
+
+fn queue_named(store: &[u8], command: &[u8]) -> Option<Queue> {
+    Queue::of(&record::find(store, command::object(command)?)?)
 }
 
 /// An object of the session is one byte.
@@ -350,6 +357,91 @@ E123 counter up value 7 threshold 9 lcso creation change \"counter E123\" read a
         );
         assert_eq!(asked(&mut kept, "01 00 00 06 E1 22 00 00 00 00"), None);
         assert_eq!(asked(&mut kept, "02 00 00 05 F1 C2 00 00 00"), None);
+    }
+
+    /// A queue of 24 bytes with the fare 6, appends granted by a counter; a queue at its last number; an object that is none.
+    fn queues() -> Kept {
+        let rest = "lcso creation change always read always execute never";
+        let text = format!(
+            "E130 counter up value 0 threshold 3 {rest}
+E131 queue next 7 maximum 24 lcso creation change \"counter E130\" read always execute never fare 41
+E132 queue next 4294967294 maximum 64 {rest}
+E133 maximum 8 {rest}"
+        );
+        let mut kept = Kept {
+            store: description::to_store(&text).unwrap(),
+            session: Session::fresh(),
+        };
+        said(&mut kept, OPEN);
+        kept
+    }
+
+    /// The refusal, the numbers of the fares before and after, and the counters that moved.
+    fn fares(kept: &mut Kept, text: &str) -> (Option<u8>, [Vec<u32>; 2], usize) {
+        let exchange = said(kept, text);
+        let numbers = |queue: &Queue| queue.fares.iter().map(|fare| fare.number).collect();
+        let (before, after) = exchange.queues.unwrap();
+        (
+            exchange.refused,
+            [numbers(&before), numbers(&after)],
+            exchange.steps.len(),
+        )
+    }
+
+    #[test]
+    fn the_queue_that_a_command_names_is_learned() {
+        let mut kept = queues();
+        let mut fares = |text| fares(&mut kept, text);
+        let append = "02 04 00 04 E1 31 42 43";
+        assert_eq!(fares(append), (None, [vec![6], vec![6, 7]], 1));
+        assert_eq!(fares(append), (Some(0x08), [vec![6, 7], vec![6, 7]], 0));
+        let write = "02 00 00 05 E1 31 00 00 00";
+        assert_eq!(fares(write), (Some(0x07), [vec![6, 7], vec![6, 7]], 0));
+        let six = "02 05 00 06 E1 31 00 00 00 06";
+        assert_eq!(fares(six), (None, [vec![6, 7], vec![7]], 1));
+        assert_eq!(fares(six), (Some(0x05), [vec![7], vec![7]], 0));
+        let read = "01 00 00 06 E1 31 00 00 FF FF";
+        assert_eq!(fares(read), (None, [vec![7], vec![7]], 0));
+        assert_eq!(said(&mut kept, "02 04 00 03 E1 33 41").queues, None);
+        assert_eq!(said(&mut kept, "02 04 00 03 E1 34 41").queues, None);
+    }
+
+    #[test]
+    fn what_a_queue_does_and_refuses_is_told() {
+        let mut kept = queues();
+        let mut told = |text: &str| {
+            let entry = Entry {
+                line: 1,
+                note: String::new(),
+                bytes: hex::bytes(text, 1).unwrap(),
+            };
+            kept.session.error = 0;
+            let shown = send(&mut kept, &entry.bytes, LARGEST_ROOM).shown(&entry);
+            let words = shown.trim_end().lines().last();
+            words.unwrap_or_default().trim().to_owned()
+        };
+        for (text, words) in [
+            ("02 04 00 04 E1 31 42 43", "done: fare 7 is appended; 2 fares are present, 6 to 7; 1 byte is free; counter E130 steps to 1 of 3, 2 to go"),
+            ("02 04 00 03 E1 31 42", "refused 08: 9 bytes are needed, 1 byte is free"),
+            ("01 00 00 06 E1 31 00 00 FF FF", "done: 23 bytes, all from there on: next number 8, fare 6 \"A\", fare 7 \"BC\""),
+            ("01 00 00 06 E1 31 00 00 00 17", "done: 23 bytes: next number 8, fare 6 \"A\", fare 7 \"BC\""),
+            ("01 00 00 06 E1 31 00 00 00 04", "done: 4 bytes, \"....\""),
+            ("02 05 00 06 E1 31 00 00 00 08", "refused 05: fare 8 is not present; 2 fares are present, 6 to 7"),
+            ("02 05 00 06 E1 31 00 00 00 07", "done: 2 fares are gone, 6 to 7; no fare is present; 20 bytes are free; counter E130 steps to 2 of 3, 1 to go"),
+            ("02 05 00 06 E1 31 00 00 00 07", "refused 05: fare 7 is not present; no fare is present"),
+            ("02 40 00 08 E1 31 00 00 00 00 00 00", "refused 07: plain writes to a queue are never granted"),
+            ("02 01 00 07 E1 31 20 03 C0 01 03", "done; counter E130 steps to 3 of 3, at its threshold"),
+            ("02 04 00 03 E1 31 41", "refused 07: the access condition does not hold (change: counter E130; E130 is 3 of 3, at its threshold)"),
+            ("02 04 00 03 E1 32 41", "done: fare 4294967294 is appended; 1 fare is present, number 4294967294; 51 bytes are free"),
+            ("02 04 00 03 E1 32 41", "refused 0D: the next number is 4294967295 (FFFFFFFF), which is never given"),
+            ("02 05 00 06 E1 32 FF FF FF FF", "refused 05: fare 4294967295 is not present; 1 fare is present, number 4294967294"),
+            ("02 04 00 02 E1 33", "refused 04: 0 bytes of a fare's body, expected 1 to 200"),
+            ("02 04 00 03 E1 33 41", "refused 03: this object is no queue"),
+            ("02 05 00 06 E0 C0 00 00 00 00", "refused 03: this object is no queue"),
+            ("02 02 00 05 E1 32 00 00 01", "refused 03: this object is no counter"),
+        ] {
+            assert_eq!(told(text), words, "{text}");
+        }
     }
 
     #[test]

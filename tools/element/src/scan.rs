@@ -91,6 +91,16 @@ impl Scan {
         Ok(bytes)
     }
 
+    /// Takes hex up to the next such word, or all that is left.
+    pub fn hex_before(&mut self, word: &str) -> Result<Vec<u8>, Slip> {
+        let (from, column) = (self.place, self.column());
+        while !self.is_end() && !self.peek().eq_ignore_ascii_case(word) {
+            self.word();
+        }
+        let taken = self.characters.get(from..self.place).unwrap_or(&[]);
+        hex::bytes(&taken.iter().collect::<String>(), column)
+    }
+
     /// What stands here is not what was expected.
     pub fn slip(&self, expected: &str) -> Slip {
         let why = match self.is_end() {
@@ -158,6 +168,20 @@ mod tests {
         assert_eq!(scan.word(), "x");
         assert!(scan.is_end());
         assert_eq!(scan.word(), "");
+    }
+
+    #[test]
+    fn hex_ends_before_a_word() {
+        let mut scan = Scan::new(" 0102 03 Fare 04\tfare", 1);
+        assert_eq!(scan.hex_before("fare"), Ok(vec![1, 2, 3]));
+        assert_eq!((scan.column(), scan.word().as_str()), (10, "Fare"));
+        assert_eq!(scan.hex_before("fare"), Ok(vec![4]));
+        assert_eq!(scan.word(), "fare");
+        assert_eq!(scan.hex_before("fare"), Ok(vec![]));
+        let told = |text| Scan::new(text, 1).hex_before("fare").unwrap_err().column;
+        assert_eq!(told("01 2 fare"), 4);
+        assert_eq!(told("0102fare 03"), 7);
+        assert_eq!(told("01 \"02\""), 4);
     }
 
     #[test]

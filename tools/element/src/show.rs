@@ -10,6 +10,7 @@ use crate::expression;
 use crate::hex;
 use crate::keep::Kept;
 use crate::names;
+use crate::queue::{Fare, Queue};
 use crate::record::{self, Record};
 use crate::trouble::{Report, Status, Trouble};
 
@@ -54,8 +55,29 @@ fn object(record: &Record, store: &[u8]) -> String {
         let shown = expression::to_text(bytes).unwrap_or_else(|why| why);
         text.push_str(&format!("      {name:<8} {shown}{}\n", found(bytes, store)));
     }
-    text.push_str(&hex::rows(record.data(), "      "));
+    text.push_str(&content(record));
     text
+}
+
+/// The data in use, row by row; of a queue the next number, then each fare.
+fn content(record: &Record) -> String {
+    let Some(queue) = Queue::of(record) else {
+        return hex::rows(record.data(), "      ");
+    };
+    let fare = |Fare { number, body }: &Fare| {
+        let bytes = names::count(body.len(), "byte");
+        format!(
+            "      fare {number}, {bytes}\n{}",
+            hex::rows(body, "      ")
+        )
+    };
+    let fares: String = queue.fares.iter().map(fare).collect();
+    format!(
+        "      {:<8} {}; {}\n{fares}",
+        "next",
+        queue.next_in_words(),
+        queue.present()
+    )
 }
 
 fn found(bytes: &[u8], store: &[u8]) -> String {
@@ -72,8 +94,12 @@ fn found(bytes: &[u8], store: &[u8]) -> String {
 /// How full an object is, or how far a counter is. A counter down has no bar: the value that it began with is not kept.
 fn how_far(record: &Record) -> String {
     let (used, maximum) = (record.used(), record.maximum());
+    let full = format!("{}  used {used} of {maximum}", bar(used, maximum));
+    if let Some(queue) = Queue::of(record) {
+        return format!("queue  {full}, {} free", queue.free());
+    }
     let Some(counter) = Counter::of(record) else {
-        return format!("{}  used {used} of {maximum}", bar(used, maximum));
+        return full;
     };
     let name = format!("counter {}", counter.direction.name());
     let words = counter.in_words();
@@ -166,6 +192,25 @@ mod tests {
         assert_eq!(
             shown(line),
             "F1D1  kind 0004  counter down  10 down to 2, 8 to go  LcsO 01 creation\n      change   LcsO < operational\n      read     always\n      execute  never\n         0  00 00 00 0A 00 00 00 02                          ........\n"
+        );
+    }
+
+    #[test]
+    fn a_queue_is_shown() {
+        let line = "F1D3 queue next 3 maximum 64 lcso operational change always read always execute never fare 46 41 52 45 fare 00 57 4F";
+        assert_eq!(
+            shown(line),
+            "F1D3  kind 0003  queue  [########............]  used 27 of 64, 37 free  LcsO 07 operational\n      change   always\n      read     always\n      execute  never\n      next     3; 2 fares are present, 1 to 2\n      fare 1, 4 bytes\n         0  46 41 52 45                                      FARE\n      fare 2, 3 bytes\n         0  00 57 4F                                         .WO\n"
+        );
+        let last = |line| shown(line).lines().last().map(str::to_owned);
+        let empty = line.split(" fare").next().unwrap();
+        assert_eq!(
+            last(empty).as_deref(),
+            Some("      next     3; no fare is present")
+        );
+        assert_eq!(
+            last(&empty.replace("next 3", "next 4294967295")).as_deref(),
+            Some("      next     4294967295 (FFFFFFFF), which is never given; no fare is present")
         );
     }
 

@@ -4,10 +4,11 @@ mod common;
 use common::Numbers;
 use element::Session;
 use element_tool::keep::Kept;
+use element_tool::queue::{Fare, Queue};
 use element_tool::{check, command, description, expression, faults, list, metadata, record, run};
 
 /// The words of both texts, and some that belong to none.
-const WORDS: [&str; 38] = [
+const WORDS: [&str; 41] = [
     "F1D0",
     "F1E0",
     "E0C0",
@@ -17,6 +18,9 @@ const WORDS: [&str; 38] = [
     "down",
     "value",
     "threshold",
+    "queue",
+    "next",
+    "fare",
     "4294967296",
     "140",
     "1501",
@@ -87,13 +91,13 @@ fn library_and_explainer_agree_on_changed_stores() {
     assert!((500..17000).contains(&well_formed), "{well_formed}");
 }
 
-/// Changes some bytes, mostly of the first 96 of a record, or cuts or lengthens the store.
+/// Changes some bytes, mostly of the first 120 of a record, or cuts or lengthens the store.
 fn change(numbers: &mut Numbers, store: &mut Vec<u8>) {
     let heads: Vec<usize> = record::records(store).iter().map(|r| r.place).collect();
     for _ in 0..1 + numbers.below(2) {
         let near = match heads.is_empty() {
             true => 0,
-            false => numbers.one(&heads) + numbers.below(100),
+            false => numbers.one(&heads) + numbers.below(120),
         };
         let special = [
             0, 1, 2, 3, 4, 7, 8, 0x0F, 0x1B, 0x40, 0x70, 0xE0, 0xE1, 0xFA, 0xFC, 0xFD, 0xFE, 0xFF,
@@ -188,7 +192,7 @@ fn random_commands_are_told() {
         let mut bytes = numbers.bytes(40);
         if let [cmd, param, high, low, ..] = bytes.as_mut_slice() {
             *cmd = numbers.one(&[1, 2, 0x70, 0x71, 0x81, 0x82, 0x55]);
-            *param = numbers.one(&[0, 1, 0x40, 2, 3]);
+            *param = numbers.one(&[0, 1, 0x40, 2, 3, 4, 5]);
             (*high, *low) = (0, numbers.byte());
         }
         assert!(!command::in_words(&bytes).is_empty());
@@ -266,7 +270,8 @@ fn random_commands_are_run() {
     for _ in 0..20000 {
         let [high, low] = numbers.one(&objects).to_be_bytes();
         let content = numbers.bytes(12);
-        let mut bytes = vec![numbers.one(&[1, 2, 0x81]), numbers.one(&[0, 1, 2, 0x40]), 0];
+        let param = numbers.one(&[0, 1, 2, 4, 5, 0x40]);
+        let mut bytes = vec![numbers.one(&[1, 2, 0x81]), param, 0];
         bytes.push(2 + content.len() as u8);
         bytes.extend([high, low]);
         bytes.extend(content);
@@ -277,5 +282,79 @@ fn random_commands_are_run() {
             assert_eq!(kept.store, before);
             assert!(exchange.last_error >= number);
         }
+    }
+}
+
+/// A queue's days, beside a list of fares that the test keeps: what the element holds, and what is told of it, is that list.
+#[test]
+fn random_days_of_a_queue_lose_nothing() {
+    let mut numbers = Numbers::new(9);
+    let mut seen = [0; 5];
+    for maximum in [4, 12, 13, 40, 300, 1500] {
+        for next in [0, 7, u32::MAX - 9] {
+            let mut kept = queue(maximum, next);
+            let mut due = Queue::numbered(&[], Some(next), maximum).unwrap();
+            for _ in 0..600 {
+                seen[day_step(&mut numbers, &mut kept, &mut due)] += 1;
+            }
+        }
+    }
+    assert!(seen.iter().all(|count| *count > 100), "{seen:?}");
+}
+
+/// An open element with an empty queue between two other objects.
+fn queue(maximum: usize, next: u32) -> Kept {
+    let rest = "lcso creation change always read always execute never";
+    let text = format!("E130 maximum 3 {rest} data FF\nE131 queue next {next} maximum {maximum} {rest}\nE132 maximum 3 {rest} data FF");
+    Kept {
+        store: description::to_store(&text).unwrap(),
+        session: Session {
+            opened: 1,
+            ..Session::fresh()
+        },
+    }
+}
+
+/// An append or an acknowledgement, on the element and on the list. Gives 0 where one is appended, 1 without room, 2 without a number, 3 where some are
+/// acknowledged, 4 where the number is absent.
+fn day_step(numbers: &mut Numbers, kept: &mut Kept, due: &mut Queue) -> usize {
+    let (command, refused, case) = match numbers.below(3) {
+        0 => acknowledgement(numbers, due),
+        _ => append(numbers, due),
+    };
+    let exchange = run::send(kept, &command, 4);
+    assert_eq!(exchange.refused, refused, "{command:02X?} {due:?}");
+    let (_, left) = exchange.queues.unwrap();
+    assert_eq!(left, *due);
+    assert!(agree(&kept.store));
+    case
+}
+
+fn append(numbers: &mut Numbers, due: &mut Queue) -> (Vec<u8>, Option<u8>, usize) {
+    let size = numbers.one(&[1, 2, 30, 200]);
+    let body: Vec<u8> = (0..size).map(|_| numbers.byte()).collect();
+    let command = [&[2, 4, 0, 2 + size as u8, 0xE1, 0x31][..], &body].concat();
+    if due.used() + 8 + size > due.maximum {
+        return (command, Some(0x08), 1);
+    }
+    if due.next == u32::MAX {
+        return (command, Some(0x0D), 2);
+    }
+    let number = due.next;
+    due.fares.push(Fare { number, body });
+    due.next += 1;
+    (command, None, 0)
+}
+
+fn acknowledgement(numbers: &mut Numbers, due: &mut Queue) -> (Vec<u8>, Option<u8>, usize) {
+    let near = due.next.saturating_sub(numbers.below(6) as u32);
+    let number = near.saturating_add(numbers.below(2) as u32);
+    let command = [&[2, 5, 0, 6, 0xE1, 0x31][..], &number.to_be_bytes()].concat();
+    match due.fares.iter().position(|fare| fare.number == number) {
+        Some(place) => {
+            due.fares.drain(..=place);
+            (command, None, 3)
+        }
+        None => (command, Some(0x05), 4),
     }
 }

@@ -25,8 +25,13 @@ pub fn factory_store() -> Vec<u8> {
 
 /// A record whose data is all in use and always granted, byte by byte.
 pub fn record(kind: u16, object: ObjectNumber, data: &[u8]) -> Vec<u8> {
-    let size = data.len() as u16;
-    let mut record = [96 + size, kind, object.0, size, size]
+    record_up_to(data.len(), kind, object, data)
+}
+
+/// The same with a maximum of its own: zeros stand behind the data in use.
+pub fn record_up_to(maximum: usize, kind: u16, object: ObjectNumber, data: &[u8]) -> Vec<u8> {
+    let [maximum, used] = [maximum, data.len()].map(|size| size as u16);
+    let mut record = [96 + maximum, kind, object.0, maximum, used]
         .map(u16::to_le_bytes)
         .concat();
     record.extend([CREATION, 0]);
@@ -35,7 +40,20 @@ pub fn record(kind: u16, object: ObjectNumber, data: &[u8]) -> Vec<u8> {
         record.resize(record.len() + 27, 0);
     }
     record.extend(data);
+    record.resize(96 + usize::from(maximum), 0);
     record
+}
+
+/// The data of a queue: the next number, then each fare with its number.
+pub fn queue_bytes(next: u32, fares: &[(u32, Vec<u8>)]) -> Vec<u8> {
+    let mut bytes = next.to_le_bytes().to_vec();
+    for (number, body) in fares {
+        bytes.extend((8 + body.len() as u16).to_le_bytes());
+        bytes.extend([1, 0]);
+        bytes.extend(number.to_le_bytes());
+        bytes.extend(body);
+    }
+    bytes
 }
 
 /// An element over a store and a session of its own.

@@ -13,7 +13,8 @@ unfolding operation session-object seen
 act-in-session-spec = tie.close (tie.spec
     (λ c. search needs) (λ c κs. (search parts-there, search session-may)) (λ c. search needs)
     (λ c. search needs) (λ c κs. (search parts-there, search session-may)) (λ c. search needs)
-    (λ c κs. (search parts-there, search session-may)) (λ c. search needs) (λ c. search needs) (λ c. search needs)
+    (λ c κs. (search parts-there, search session-may)) (λ c. search needs) (λ c. search needs) (λ c. search needs) (λ c. search needs) (λ c. search needs)
     (λ c. (search session-by, search answered-by)) (λ c. absurd (search session-never)) (λ c. search needs)
     (λ c. (search (session-by, state-set), search answered-by)) (λ c. search needs)
-    (λ c. (search (session-by, state-set), search answered-by)) (λ c. absurd (search session-never)) (λ c. absurd (search session-never)))
+    (λ c. (search (session-by, state-set), search answered-by)) (λ c. absurd (search session-never)) (λ c. absurd (search session-never))
+    (λ c. absurd (search session-never)) (λ c. absurd (search session-never)))

@@ -8,5 +8,5 @@ use Rattle.judge.proofs.is_life_cycle.Tie as tie
 pub is-life-cycle-spec : {M : Type 1} → statement M
 unfolding is kind-number
 is-life-cycle-spec = tie.close (tie.spec
-    (λ c. search needs) (λ c. search needs) (λ c. search needs) (λ c. search needs)
-    (λ c. search kind-by) (λ c. search (kind-by, not-life-cycle)) (λ c. search kind-by) (λ c. search kind-by))
+    (λ c. search needs) (λ c. search needs) (λ c. search needs) (λ c. search needs) (λ c. search needs)
+    (λ c. search kind-by) (λ c. search (kind-by, not-life-cycle)) (λ c. search kind-by) (λ c. search kind-by) (λ c. search kind-by))

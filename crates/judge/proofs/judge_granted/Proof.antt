@@ -15,6 +15,7 @@ judge-granted-spec = tie.close (tie.spec
     (λ c κs. search parts-there) (λ c. search needs) (λ c κs. search needs) (λ c κs. search needs) (λ c. search needs)
     (λ c κs. (search needs, search parts-there)) (λ c. search needs) (λ c κs. (search needs, search parts-there))
     (λ c. search needs) (λ c κs. (search needs, search parts-there)) (λ c. search needs) (λ c κs. (search needs, search parts-there))
+    (λ c. search needs) (λ c κs. (search needs, search parts-there)) (λ c. search needs) (λ c κs. (search needs, search parts-there))
     (λ c. search (steps-not, own-by, stored-get)) (λ c. search (steps-not, own-by, fitting-told))
     (λ c. search (steps-not, own-by, stored-write)) (λ c. search (steps-not, own-by, stored-write))
-    (λ c. search (steps-not, own-by)) (λ c. search (steps-not, own-by)))
+    (λ c. search (steps-not, own-by)) (λ c. search (steps-not, own-by)) (λ c. search (steps-not, own-by)) (λ c. search (steps-not, own-by)))

@@ -9,5 +9,6 @@ pub judge-session-spec : {M : Type 1} → statement M
 judge-session-spec = tie.close (tie.spec
     (λ c. search needs) (λ c κs. search parts-there) (λ c. search needs) (λ c. search needs)
     (λ c κs. search parts-there) (λ c. search needs) (λ c κs. search parts-there) (λ c. search needs)
-    (λ c. search needs) (λ c κs. search needs) (λ c. search session-get) (λ c. search session-by) (λ c. search session-by)
-    (λ c. search session-by) (λ c. search session-by) (λ c. search session-by))
+    (λ c. search needs) (λ c κs. search needs) (λ c. search needs) (λ c κs. search needs) (λ c. search needs) (λ c κs. search needs)
+    (λ c. search session-get) (λ c. search session-by) (λ c. search session-by)
+    (λ c. search session-by) (λ c. search session-by) (λ c. search session-by) (λ c. search session-by) (λ c. search session-by))

@@ -9,5 +9,4 @@ pub filled-spec : {M : Type 1} → statement M
 unfolding filled
 filled-spec = tie.close (tie.spec
     (λ c. search needs) (λ c. search needs) (λ c. search needs) (λ c. search needs) (λ c κs. search needs)
-    (λ c. search no-call) (λ c. search needs) (λ c. search needs) (λ c. search needs) (λ c κs. search needs)
-    (λ c. search go-call))
+    (λ c. search no-call) (λ c κs. search needs) (λ c. search go-call))

@@ -1,6 +1,6 @@
 -- Each number is read as its kind.
 use mathlib.Core.Path.{sym}
-use Rattle.rules.specs.declared.Kind.the-variants.{Data, Counter}
+use Rattle.rules.specs.declared.Kind.the-variants.{Data, Counter, Queue}
 use Rattle.rules.specs.declared.Direction.the-variants.{Up, Down}
 use Rattle.rules.specs.Object.{kind-number, read-kind, data-allowed}
 use Rattle.expression.proofs.Tests.{tests}
@@ -14,5 +14,6 @@ unfolding kind-number read-kind data-allowed
 kind-ok-spec = tie.close (tie.spec
     (λ c. search (read-as Data, tests, sym) depth 8) (λ c κs. search needs)
     (λ c. search (read-as (Counter Up), tests, sym) depth 8) (λ c κs. search needs)
+    (λ c. search (read-as Queue, tests, sym) depth 8) (λ c κs. search needs)
     (λ c. search (read-as (Counter Down), tests, sym) depth 8)
     (λ c. search read-none))

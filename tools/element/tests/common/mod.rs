@@ -86,18 +86,20 @@ pub fn description(numbers: &mut Numbers) -> String {
     let (mut lines, mut object, mut size) = (String::new(), 0, 0);
     for _ in 0..1 + numbers.below(32) {
         object += 1 + numbers.below(2000);
-        let is_counter = numbers.below(4) == 0;
-        let maximum = match is_counter {
-            true => 8,
-            false => 1 + numbers.below(numbers_limit(size)),
+        let kind = numbers.one(&["counter", "queue", "data", "data"]);
+        let maximum = match kind {
+            "counter" => 8,
+            "queue" => 4 + numbers.below(numbers_limit(size) - 4),
+            _ => 1 + numbers.below(numbers_limit(size)),
         };
         if [0xE0C0, 0xF1C0, 0xF1C2].contains(&object) || size + 96 + maximum > 16384 {
             continue;
         }
         size += 96 + maximum;
-        lines.push_str(&match is_counter {
-            true => counter_line(numbers, object),
-            false => object_line(numbers, object, maximum),
+        lines.push_str(&match kind {
+            "counter" => counter_line(numbers, object),
+            "queue" => queue_line(numbers, object, maximum),
+            _ => object_line(numbers, object, maximum),
         });
     }
     lines
@@ -131,6 +133,34 @@ fn counter_line(numbers: &mut Numbers, object: usize) -> String {
         numbers.below(limit),
         middle(numbers)
     )
+}
+
+/// Fares up to a random number of bytes; a next number that has room for them, at the least, at the most or anywhere.
+fn queue_line(numbers: &mut Numbers, object: usize, maximum: usize) -> String {
+    let mut free = numbers.below(maximum - 3);
+    let (mut fares, mut count) = (String::new(), 0);
+    while free >= 9 {
+        let body = 1 + numbers.below(body_limit(free - 8));
+        free -= 8 + body;
+        count += 1;
+        fares.push_str(" fare");
+        fares.extend((0..body).map(|_| format!(" {:02X}", numbers.byte())));
+    }
+    let next = match numbers.below(3) {
+        0 => count,
+        1 => u32::MAX as usize,
+        _ => count + numbers.below(1 << 31),
+    };
+    let middle = middle(numbers);
+    format!("{object:04X} queue next {next} maximum {maximum}{middle}{fares}\n")
+}
+
+/// The most bytes of a body that so many are free for; often few.
+fn body_limit(left: usize) -> usize {
+    left.min(match left % 3 {
+        0 => 200,
+        _ => 20,
+    })
 }
 
 /// LcsO and the three expressions.
