@@ -1,6 +1,6 @@
 -- Demand 2 of one command: a write to a stored object makes its change exactly when the command is well formed, the stored change
--- condition holds, the content is allowed and fits and it is no plain write to a queue; a data read shows exactly the stored bytes, only when the read condition holds.
--- Beside that, the counters that the condition uses up step, and nothing else.
+-- condition holds, the content is allowed and fits and it is no plain write to a queue; a data read shows exactly the stored bytes, only when the
+-- read condition holds. Beside that, the counters that the condition uses up step, and nothing else.
 use Prim.Native.Nat.{ℕ, _+_, _≤_, _<_}
 use mathlib.Core.Bool.{Bool, true, false, not, _&&_, false≢true}
 use mathlib.Core.List.{List, []}

@@ -199,9 +199,6 @@ module _ (b : List ℕ) (h : is-some (queue b) ≡ true) where
   first-is : first-number b + length (q .fares) ≡ q .next
   first-is = let (e, ok) = sound-layout b h in counted b q e ok
 
-  pub head-long : queue-head ≤ length b
-  head-long = omega (arith, ap length (sound-layout b h .0), queue-length q)
-
   module _ (k n : ℕ) (en : n ≡ first-number b) where
     pub below-first : k < n → false ≡ present-in (q .fares) k
     below-first l = sym (present-is k ∙ rw (lt-leb (q .next) (k + length (q .fares)) (omega (arith, first-is))))

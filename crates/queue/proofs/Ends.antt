@@ -37,7 +37,7 @@ module _ (n : ℕ) (q : FareQueue) (x : FareEnd) (ex : x ≡ fare-end n q) where
   told : x ≡ (if present-in (q .fares) n then Behind (queue-head + fares-size (up-to n (q .fares))) else Absent)
   told = ex ∙ fare-ends n q
 
-  pub present-by : (e : ℕ) → x ≡ Behind e → true ≡ present-in (q .fares) n
+  present-by : (e : ℕ) → x ≡ Behind e → true ≡ present-in (q .fares) n
   present-by e h = by-test (present-in (q .fares) n) sym (λ p. let y : x ≡ Absent = told ∙ rw p in let z : _≡_ {A = ℕ} 0 1 = cc in absurd (omega arith))
 
   pub absent-by : x ≡ Absent → false ≡ present-in (q .fares) n

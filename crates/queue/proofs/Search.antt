@@ -14,10 +14,13 @@ use Rattle.queue.specs.declared.FareEnd.the-variants.{Behind, Absent}
 use Rattle.queue.specs.Ends.{ends-behind, fare-end}
 use Rattle.queue.proofs.Fares.{size-here, number-here, length-here, rest-here}
 
--- `next_number`
+-- `first_number`, `next_number`
 module _ (b : List ℕ) (h : is-some (queue b) ≡ true) where
+  pub head-long : queue-head ≤ length b
+  head-long = omega (arith, ap length (sound-layout b h .0), queue-length (queue-in b))
+
   pub head-inside : 0 + 3 < length b
-  head-inside = omega (arith, ap length (sound-layout b h .0), queue-length (queue-in b))
+  head-inside = omega (arith, head-long)
 
   pub next-by : (r : ℕ) → r ≡ little-endian-4-at 0 b → r ≡ queue-in b .next
   next-by r e = e ∙ ap (little-endian-4-at 0) (sym (sound-layout b h .0)) ∙ next-first (queue-in b)

@@ -1,6 +1,7 @@
 -- Present from the first number up to just below the next.
 use borrow.Author.Needs.{needs}
-use Rattle.queue.proofs.Checking.{head-long, below-first, from-first}
+use Rattle.queue.proofs.Checking.{below-first, from-first}
+use Rattle.queue.proofs.Search.{head-long}
 use Rattle.queue.proofs.is_present.Statement.{statement}
 use Rattle.queue.proofs.is_present.Tie as tie
 
