@@ -224,6 +224,31 @@ pub fn mixed(begin: &Beginning, random: &mut Random) -> List {
     list
 }
 
+/// The kinds of a day's commands with their weights: rides, whose fares go to a queue, and now and then an upload.
+const DAY: [(usize, Kind); 9] = [
+    (6, Kind::Get(17, 140)),
+    (6, Kind::Count),
+    (6, Kind::Append(17, 60)),
+    (3, Kind::Acknowledge),
+    (2, Kind::GetQueue),
+    (1, Kind::GetMetadata),
+    (1, Kind::GetSession),
+    (1, Kind::Write(0x00, 17, 140)),
+    (1, Kind::Open),
+];
+const DAY_COMMANDS: usize = 2_000;
+
+/// A list of the kinds that a day has, aimed as in a mixed list.
+pub fn day(begin: &Beginning, random: &mut Random) -> List {
+    let mut now = begin.clone();
+    let mut list = List::new();
+    while list.len() < DAY_COMMANDS {
+        push(random.pick_weighted(&DAY), &now, random, &mut list);
+        follow(&mut now, &list[list.len() - 1..]);
+    }
+    list
+}
+
 /// Store and session as these commands leave them.
 fn follow(now: &mut Beginning, commands: &[(Vec<u8>, usize)]) {
     let mut room = [0; ROOM];

@@ -1,4 +1,4 @@
-//! Measures the proved library against the reference, over lists of commands of every kind.
+//! Measures the proved library against the reference, over lists of commands of every kind and streams of frames.
 //!
 //! Both sides run the same lists from the same stores and sessions, by turns. Every figure is the median of the rounds,
 //! in time of the processor, so that other programs disturb it little. A difference between the sides ends the run.
@@ -7,6 +7,7 @@
 //!        speed short    one round, to see that both sides do the same
 
 mod clock;
+mod dock;
 mod library;
 mod lists;
 mod pictures;
@@ -512,6 +513,7 @@ fn main() {
     queue_checks();
     let sized = sizes(&stores[0].begin);
     by_fares();
+    dock::streams(&stores[1].begin);
     for store in &stores {
         kinds(&format!("Each kind alone, {}", store.title), &store.begin);
     }

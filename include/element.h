@@ -31,7 +31,7 @@ extern "C" {
  * that was written for the version before may have to be changed.
  */
 #define ELEMENT_VERSION_MAJOR 3
-#define ELEMENT_VERSION_MINOR 1
+#define ELEMENT_VERSION_MINOR 2
 
 /* Outcome numbers: what a call returns. */
 enum {

@@ -363,7 +363,7 @@ static void check_constants(void)
         ELEMENT_ALWAYS, ELEMENT_CONDITION_COUNTER, ELEMENT_CONDITION_LCSG, ELEMENT_CONDITION_LCSA, ELEMENT_CONDITION_LCSO, ELEMENT_EQUAL, ELEMENT_GREATER, ELEMENT_LESS,
         ELEMENT_AND, ELEMENT_OR, ELEMENT_NEVER
     };
-    expect(ELEMENT_VERSION_MAJOR == 3 && ELEMENT_VERSION_MINOR == 1, "version 3.1");
+    expect(ELEMENT_VERSION_MAJOR == 3 && ELEMENT_VERSION_MINOR == 2, "version 3.2");
     expect(ELEMENT_WHOLE == 0xFFFF, "the length that asks for all");
     expect(ELEMENT_KIND_DATA == 1 && ELEMENT_KIND_COUNTER_UP == 2 && ELEMENT_KIND_QUEUE == 3 && ELEMENT_KIND_COUNTER_DOWN == 4, "the kinds of records");
     expect(ELEMENT_COUNT == 2 && ELEMENT_COUNTER_SIZE == 8, "the Param of a count and the size of a counter");

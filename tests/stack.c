@@ -1,6 +1,6 @@
 /*
- * The stack that each entry of include/element.h takes: each is called on a painted stack of its own, over commands of every kind, and the deepest
- * byte that changed is found.
+ * The stack that each entry of include/element.h and include/dock.h takes: each is called on a painted stack of its own, over commands and frames of
+ * every kind, and the deepest byte that changed is found.
  *
  * usage: stack [any]      fails above the bound of an entry; with `any`, only runs (a sanitizer's memset takes stack too)
  *
@@ -12,6 +12,7 @@
 #include <string.h>
 #include <ucontext.h>
 
+#include "dock.h"
 #include "element.h"
 
 enum {
@@ -38,6 +39,16 @@ static size_t command_len, room_len, count;
 /* Commands that were done, some kinds of them, and refused with a number: so that every kind is seen to be there. */
 static unsigned done, counted, appended, acknowledged, stepped, refused[256];
 static uint8_t before[ELEMENT_LARGEST_STORE];
+
+/* A stream of frames, a piece of it and a room for a frame; the calls that ended with a frame, and with each stop. */
+static uint8_t lent[DOCK_LONGEST_FRAME];
+static dock_stream stream;
+static dock_fed fed;
+static uint8_t piece[DOCK_LONGEST_FRAME];
+static uint8_t body[DOCK_LONGEST_BODY + 1];
+static uint8_t framed[DOCK_LONGEST_FRAME];
+static size_t piece_len, body_len;
+static unsigned frames, stops[4], written[3];
 
 /* The painted stack. */
 
@@ -111,6 +122,30 @@ static void call_fresh_session(void)
 {
     frame = __builtin_frame_address(0);
     session = element_fresh_session();
+}
+
+static void call_dock_start(void)
+{
+    frame = __builtin_frame_address(0);
+    stream = dock_start();
+}
+
+static void call_dock_feed(void)
+{
+    frame = __builtin_frame_address(0);
+    fed = dock_feed(stream, lent, piece, piece_len);
+}
+
+static void call_dock_write_command(void)
+{
+    frame = __builtin_frame_address(0);
+    outcomes[0] = dock_write_command(body, body_len, framed, room_len);
+}
+
+static void call_dock_write_response(void)
+{
+    frame = __builtin_frame_address(0);
+    outcomes[0] = dock_write_response(body, body_len, framed, room_len);
 }
 
 /* Stores, sessions and commands by chance, from a fixed seed. */
@@ -439,6 +474,54 @@ static void try_fresh_session(void)
     call_on_stack(call_fresh_session);
 }
 
+/* Frames by chance. */
+
+static void try_dock_start(void)
+{
+    call_on_stack(call_dock_start);
+}
+
+/* A body of any size, one in eight too long, and a room that is mostly large enough. */
+static void try_dock_write(void (*entry)(void))
+{
+    body_len = below(8) == 0 ? sizeof body : below(sizeof body);
+    room_len = below(8) == 0 ? below(sizeof framed) : sizeof framed;
+    for (size_t i = 0; i < body_len; i++)
+        body[i] = (uint8_t)below(256);
+    call_on_stack(entry);
+    written[outcomes[0]]++;
+}
+
+static void try_dock_write_command(void)
+{
+    try_dock_write(call_dock_write_command);
+}
+
+static void try_dock_write_response(void)
+{
+    try_dock_write(call_dock_write_response);
+}
+
+/* A piece of a frame, which one time in four has a byte changed; a stream that mostly goes on with what was collected, or begins anew. */
+static void try_dock_feed(void)
+{
+    body_len = below(below(4) == 0 ? DOCK_LONGEST_BODY : 40);
+    dock_write_command(body, body_len, piece, sizeof piece);
+    piece_len = body_len + DOCK_AROUND;
+    if (below(4) == 0)
+        piece[below(piece_len)] ^= (uint8_t)(1 + below(255));
+    if (below(4) == 0)
+        piece_len = below(piece_len);
+    if (stream.stop != DOCK_RUNNING || below(2) == 0)
+        stream = dock_start();
+    if (below(64) == 0)
+        stream.collected = (uint16_t)below(0x10000);
+    call_on_stack(call_dock_feed);
+    stream = fed.stream;
+    frames += fed.kind != 0;
+    stops[stream.stop]++;
+}
+
 /* The figures. */
 
 static const struct {
@@ -450,7 +533,11 @@ static const struct {
     {"element_run", try_run, 768},
     {"element_check_store", try_check_store, 384},
     {"element_make_factory_store", try_make_factory_store, 448},
-    {"element_fresh_session", try_fresh_session, 64}
+    {"element_fresh_session", try_fresh_session, 64},
+    {"dock_start", try_dock_start, 64},
+    {"dock_feed", try_dock_feed, 768},
+    {"dock_write_command", try_dock_write_command, 640},
+    {"dock_write_response", try_dock_write_response, 640}
 };
 
 /* The deepest of all calls, with either colour: a byte of the one colour may have been written as such. */
@@ -486,6 +573,15 @@ static bool all_kinds(void)
     return done > ROUNDS / 4;
 }
 
+/* Whole frames, every stop, and every number of the writers have been seen. */
+static bool all_frames(void)
+{
+    if (frames > 0 && stops[1] > 0 && stops[2] > 0 && stops[3] > 0 && written[0] > 0 && written[1] > 0 && written[2] > 0)
+        return true;
+    printf("no frame was received whole, a stream was not stopped with 1, 2 and 3, or a writer did not return 0, 1 and 2\n");
+    return false;
+}
+
 int main(int arguments, char **words)
 {
     bool any = arguments > 1 && strcmp(words[1], "any") == 0;
@@ -496,9 +592,10 @@ int main(int arguments, char **words)
             printf("%s: %zu bytes of stack, bound %zu\n", ENTRIES[i].name, most, ENTRIES[i].bound);
         within = within && (any || most <= ENTRIES[i].bound);
     }
-    if (!all_kinds())
+    if (!all_kinds() || !all_frames())
         return 1;
     printf("%d calls of each entry on a stack of their own; of the commands %u were done, %u of them counts, %u appends, %u acknowledgements and %u gets"
-        " that used up a counter, the others refused with every number\n", 2 * ROUNDS, done, counted, appended, acknowledged, stepped);
+        " that used up a counter, the others refused with every number; %u frames were received\n",
+        2 * ROUNDS, done, counted, appended, acknowledged, stepped, frames);
     return within ? 0 : 1;
 }

@@ -1,6 +1,7 @@
 //! What the generated cases of a seed cover, judged by the reference itself.
 
 pub mod counters;
+pub mod docks;
 pub mod queues;
 pub mod reads;
 pub mod used_counters;

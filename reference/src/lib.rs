@@ -1,9 +1,12 @@
 //! Reference implementation of the secure element's command set: commands and
 //! responses, the object store, the session, the factory store, and the
-//! programs that run and compare lists of commands.
+//! programs that run and compare lists of commands; and the dock stream.
 
 pub mod counter;
 pub mod coverage;
+pub mod dock;
+pub mod dock_fast;
+pub mod dock_replay;
 pub mod engine;
 pub mod expression;
 pub mod factory;

@@ -90,7 +90,7 @@ fn session_bytes(session: Session) -> [u8; 4] {
     ]
 }
 
-fn read_letter(input: &mut impl Read) -> io::Result<Option<u8>> {
+pub(crate) fn read_letter(input: &mut impl Read) -> io::Result<Option<u8>> {
     let mut letter = [0];
     match input.read_exact(&mut letter) {
         Ok(()) => Ok(Some(letter[0])),
@@ -100,7 +100,7 @@ fn read_letter(input: &mut impl Read) -> io::Result<Option<u8>> {
 }
 
 /// A number of `size` bytes, most significant first.
-fn read_number(input: &mut impl Read, size: usize) -> io::Result<usize> {
+pub(crate) fn read_number(input: &mut impl Read, size: usize) -> io::Result<usize> {
     let mut bytes = [0; 4];
     input.read_exact(&mut bytes[..size])?;
     let number = bytes[..size]
@@ -116,7 +116,11 @@ fn require_at_most(length: usize, limit: usize) -> io::Result<()> {
     Ok(())
 }
 
-fn read_bytes(input: &mut impl Read, length: usize, limit: usize) -> io::Result<Vec<u8>> {
+pub(crate) fn read_bytes(
+    input: &mut impl Read,
+    length: usize,
+    limit: usize,
+) -> io::Result<Vec<u8>> {
     require_at_most(length, limit)?;
     let mut bytes = vec![0; length];
     input.read_exact(&mut bytes)?;
@@ -210,7 +214,7 @@ pub fn run(input: &mut impl Read, output: &mut impl Write) -> io::Result<()> {
     }
 }
 
-fn is_bad_input(error: &io::Error) -> bool {
+pub(crate) fn is_bad_input(error: &io::Error) -> bool {
     matches!(
         error.kind(),
         ErrorKind::InvalidData | ErrorKind::UnexpectedEof

@@ -29,6 +29,8 @@
 //! A store may hold queues of fares: [`Element::append`] puts a fare behind the others, and a full queue refuses it; [`Element::queue`] reads the fares
 //! with their numbers, and [`Element::acknowledge`] takes away those that are uploaded. Nothing else takes a fare away.
 //!
+//! At the dock, commands and responses travel in frames, cut into pieces of any size: [`dock::Stream`] receives them, [`dock::write_frame`] sends them.
+//!
 //! The crate needs `core` only and takes no memory of its own: all buffers are lent, and no call has a large one on the stack (an append has the
 //! largest, 206 bytes). No input panics.
 //! A command may also be given as bytes: [`Element::send`], [`Element::carry_out`] and, for a list, [`Element::run`].
@@ -43,6 +45,7 @@ mod queue;
 mod session;
 
 pub mod command;
+pub mod dock;
 pub mod expression;
 pub mod kind;
 pub mod tag;

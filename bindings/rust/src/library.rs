@@ -1,6 +1,7 @@
-//! The thin calls of the static library, as include/element.h declares it.
+//! The thin calls of the static library, as include/element.h and include/dock.h declare it.
 #![allow(unsafe_code)]
 
+use crate::dock::{Kind, LONGEST_FRAME};
 use crate::Session;
 
 unsafe extern "C" {
@@ -36,6 +37,34 @@ unsafe extern "C" {
 
     // Takes nothing, and gives four bytes laid out as in C.
     safe fn element_fresh_session() -> Session;
+
+    // Takes nothing, and gives two numbers laid out as in C.
+    safe fn dock_start() -> DockStream;
+
+    fn dock_feed(stream: DockStream, frame: *mut u8, piece: *const u8, piece_len: usize)
+        -> DockFed;
+
+    fn dock_write_command(body: *const u8, body_len: usize, room: *mut u8, room_len: usize) -> u8;
+
+    fn dock_write_response(body: *const u8, body_len: usize, room: *mut u8, room_len: usize) -> u8;
+}
+
+/// Where a stream is, as `dock_stream` of the header has it.
+#[repr(C)]
+#[derive(Clone, Copy, Debug)]
+pub(crate) struct DockStream {
+    pub collected: u16,
+    pub stop: u16,
+}
+
+/// What came of a call, as `dock_fed` of the header has it.
+#[repr(C)]
+#[derive(Clone, Copy)]
+pub(crate) struct DockFed {
+    pub stream: DockStream,
+    pub kind: u16,
+    pub size: u16,
+    pub taken: usize,
 }
 
 /// The outcome of a call that did its work.
@@ -108,4 +137,22 @@ pub(crate) fn fresh_session() -> Session {
 pub fn check_store(store: &[u8]) -> bool {
     // SAFETY: the pointer is good for the length of the slice.
     unsafe { element_check_store(store.as_ptr(), store.len()) }
+}
+
+pub(crate) fn start_stream() -> DockStream {
+    dock_start()
+}
+
+pub(crate) fn feed(stream: DockStream, frame: &mut [u8; LONGEST_FRAME], piece: &[u8]) -> DockFed {
+    // SAFETY: the frame has the bytes that the header asks for, the piece's pointer is good for its length, and the frame overlaps nothing.
+    unsafe { dock_feed(stream, frame.as_mut_ptr(), piece.as_ptr(), piece.len()) }
+}
+
+pub(crate) fn write_frame(kind: Kind, body: &[u8], room: &mut [u8]) -> u8 {
+    let write = match kind {
+        Kind::Command => dock_write_command,
+        Kind::Response => dock_write_response,
+    };
+    // SAFETY: each pointer is good for the length of its slice, and the room overlaps nothing.
+    unsafe { write(body.as_ptr(), body.len(), room.as_mut_ptr(), room.len()) }
 }

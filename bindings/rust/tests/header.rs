@@ -1,9 +1,14 @@
-//! The constants are those of include/element.h.
-use element::{command, expression, kind, FareNumber, Length, ObjectNumber, Refusal};
+//! The constants are those of include/element.h and include/dock.h.
+use element::dock::{Fault, Kind, WriteError};
+use element::{command, dock, expression, kind, FareNumber, Length, ObjectNumber, Refusal};
+
+fn text_of(name: &str) -> String {
+    let path = format!("{}/../../include/{name}", env!("CARGO_MANIFEST_DIR"));
+    std::fs::read_to_string(&path).expect(&path)
+}
 
 fn text() -> String {
-    let path = concat!(env!("CARGO_MANIFEST_DIR"), "/../../include/element.h");
-    std::fs::read_to_string(path).expect(path)
+    text_of("element.h")
 }
 
 /// Each `ELEMENT_NAME = NUMBER` of the header.
@@ -19,7 +24,10 @@ fn constants(line: &str) -> Vec<(String, usize)> {
 
 fn constant(text: &str) -> Option<(String, usize)> {
     let (name, number) = text.split_once('=')?;
-    let name = name.trim().strip_prefix("ELEMENT_")?;
+    let name = name.trim();
+    let name = name
+        .strip_prefix("ELEMENT_")
+        .or_else(|| name.starts_with("DOCK_").then_some(name))?;
     let number = number.trim();
     let value = match number.strip_prefix("0x") {
         Some(hex) => usize::from_str_radix(hex, 16),
@@ -117,6 +125,31 @@ fn constants_are_those_of_the_header() {
             header.iter().find(|(other, _)| other == name)
         );
     }
+}
+
+/// All constants of dock.h, in its order.
+#[test]
+fn constants_of_the_dock_are_those_of_its_header() {
+    let long = WriteError::BodyTooLong { size: 0 };
+    let small = WriteError::RoomTooSmall { size: 0, needed: 0 };
+    let due = [
+        ("DOCK_COMMAND", Kind::Command.number().into()),
+        ("DOCK_RESPONSE", Kind::Response.number().into()),
+        ("DOCK_RUNNING", 0),
+        ("DOCK_BAD_LENGTH", Fault::BadLength.number().into()),
+        ("DOCK_UNKNOWN_KIND", Fault::UnknownKind.number().into()),
+        ("DOCK_BAD_CHECK", Fault::BadCheck.number().into()),
+        ("DOCK_WRITTEN", 0),
+        ("DOCK_BODY_TOO_LONG", long.number().into()),
+        ("DOCK_ROOM_TOO_SMALL", small.number().into()),
+        ("DOCK_HEAD", dock::HEAD),
+        ("DOCK_AROUND", dock::AROUND),
+        ("DOCK_LONGEST_FRAME", dock::LONGEST_FRAME),
+        ("DOCK_LONGEST_BODY", dock::LONGEST_BODY),
+    ];
+    let due = due.map(|(name, number)| (name.to_string(), number));
+    let found: Vec<_> = text_of("dock.h").lines().flat_map(constants).collect();
+    assert_eq!(found, due);
 }
 
 #[test]

@@ -1,9 +1,16 @@
 // What firmware links: C names over lent buffers and a session of four bytes. include/element.h states each promise in plain words.
+use dock::HostFed;
+use dock::HostStream;
+use frames::Kind;
 use rules::Session;
 ghost use mathlib.Core.Path.{_≡_};
 ghost use Rattle.rules.specs.Basic.{is-some};
 ghost use Rattle.rules.specs.Layout.{unpack};
 ghost use Rattle.rules.specs.Factory.{fresh-session, factory-outcome, factory-made};
+ghost use Rattle.frames.specs.Frames.{in-frame, HostWrites};
+ghost use Rattle.frames.specs.declared.Kind.the-variants.{Command, Response};
+ghost use Rattle.dock.specs.declared.Stream.the-variants.{Collecting};
+ghost use Rattle.dock.specs.Host.{host-of, host-left, host-feeding};
 ghost use Rattle.firmware.specs.Host.{session-of, opened-byte, bytes-of, left, HostExecutes};
 ghost use Rattle.firmware.specs.Lists.{all-fit, HostRun};
 
@@ -193,4 +200,38 @@ pub extern "C" fn element_fresh_session() -> HostSession
         error: 0,
     };
     bytes_of(nothing, factory::fresh_session())
+}
+
+// A stream at the dock, between frames: where it starts, and its reset.
+#[no_mangle]
+pub extern "C" fn dock_start() -> HostStream
+    ensures { λ r. ⌜ r ≡ host-of (Collecting (in-frame 0)) ⌝ }
+{
+    dock::start_for_host()
+}
+
+// A piece of what comes in at the dock.
+#[no_mangle]
+pub extern "C" fn dock_feed(
+    stream: HostStream,
+    frame: &mut [u8; frames::LONGEST],
+    piece: &[u8],
+) -> HostFed
+    ensures { λ r. ⌜ host-left r (now (frame .exit)) ≡ host-feeding stream (now (frame .entry)) (now (piece .entry)) ⌝ }
+{
+    dock::feed_for_host(stream, frame, piece)
+}
+
+#[no_mangle]
+pub extern "C" fn dock_write_command(body: &[u8], room: &mut [u8]) -> u8
+    ensures { λ r. ⌜ HostWrites Command (now (body .entry)) (now (room .entry)) r (now (room .exit)) ⌝ }
+{
+    frames::write_for_host(Kind::Command, body, room)
+}
+
+#[no_mangle]
+pub extern "C" fn dock_write_response(body: &[u8], room: &mut [u8]) -> u8
+    ensures { λ r. ⌜ HostWrites Response (now (body .entry)) (now (room .entry)) r (now (room .exit)) ⌝ }
+{
+    frames::write_for_host(Kind::Response, body, room)
 }

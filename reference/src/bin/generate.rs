@@ -5,14 +5,18 @@ use std::io::{self, BufWriter, Write};
 use std::process::ExitCode;
 
 use reference::coverage::cover;
+use reference::coverage::docks::cover_docks;
 use reference::generator::cases::{cases, Case};
 use reference::generator::lists::list;
 use reference::generator::mixes::pair;
+use reference::generator::streams::{self, streams};
 
 const USAGE: &str = "usage: generate cases SEED COUNT
        generate lists SEED INDEX
        generate mixes SEED COUNT
-       generate coverage SEED COUNT";
+       generate coverage SEED COUNT
+       generate streams SEED COUNT
+       generate dock-coverage SEED COUNT";
 
 fn main() -> ExitCode {
     let arguments: Vec<String> = env::args().skip(1).collect();
@@ -24,7 +28,9 @@ fn main() -> ExitCode {
         "cases" => write_cases(seed, number),
         "lists" => write_list(seed, number),
         "mixes" => write_mixes(seed, number),
+        "streams" => write_streams(seed, number),
         "coverage" => return show_coverage(seed, number),
+        "dock-coverage" => return show_dock_coverage(seed, number),
         _ => {
             eprintln!("{USAGE}");
             return ExitCode::from(2);
@@ -69,19 +75,35 @@ fn write_mixes(seed: u64, count: u64) -> io::Result<()> {
     output.flush()
 }
 
+fn write_streams(seed: u64, count: u64) -> io::Result<()> {
+    let mut output = BufWriter::with_capacity(1 << 16, io::stdout().lock());
+    let mut write_case = |case: streams::Case| case.item.write(&mut output);
+    streams(seed, count as usize, &mut write_case)?;
+    output.flush()
+}
+
 /// Prints the tables; fails if something reachable never occurred.
 fn show_coverage(seed: u64, count: u64) -> ExitCode {
     let coverage = cover(seed, count as usize);
     print!("{}", coverage.table());
-    for missing in coverage.missing() {
+    show_lacks(&coverage.missing(), coverage.errors())
+}
+
+fn show_dock_coverage(seed: u64, count: u64) -> ExitCode {
+    let coverage = cover_docks(seed, count as usize);
+    print!("{coverage}");
+    show_lacks(&coverage.missing(), coverage.errors())
+}
+
+fn show_lacks(missing: &[String], errors: &[String]) -> ExitCode {
+    for missing in missing {
         println!("never occurred: {missing}");
     }
-    for error in coverage.errors() {
+    for error in errors {
         println!("error: {error}");
     }
-    if coverage.missing().is_empty() && coverage.errors().is_empty() {
-        ExitCode::SUCCESS
-    } else {
-        ExitCode::FAILURE
+    match missing.is_empty() && errors.is_empty() {
+        true => ExitCode::SUCCESS,
+        false => ExitCode::FAILURE,
     }
 }

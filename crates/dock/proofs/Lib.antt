@@ -1,0 +1,12 @@
+pub mod Stepping
+pub mod Ahead
+pub mod Parting
+pub mod Feeding
+pub mod Telling
+pub mod Cutting
+pub mod Taking
+pub mod Received
+pub mod Stopping
+pub mod ReadBack
+pub mod Cases
+pub mod Witnesses

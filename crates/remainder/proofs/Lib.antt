@@ -1,0 +1,4 @@
+pub mod Xor
+pub mod Entries
+pub mod Passing
+pub mod Cases
