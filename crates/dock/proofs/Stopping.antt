@@ -8,6 +8,7 @@ use native.Mathlib.Omega.{arith}
 use borrow.Author.Tests.{ltb-true, ltb-false}
 use lib.Dec.{ltb}
 use lib.ListN.{length, length-append}
+use Rattle.rules.specs.Basic.{little-endian-at}
 use Rattle.frames.specs.declared.NamedKind.the-variants.{Known, Unknown}
 use Rattle.frames.specs.declared.Fault.{Fault}
 use Rattle.frames.specs.declared.Fault.the-variants.{BadLength, UnknownKind, BadCheck}
@@ -19,7 +20,7 @@ use Rattle.frames.specs.declared.Step.the-variants.{Whole, NotYet, Stopped}
 use Rattle.frames.specs.Frames.{in-frame, fault-number, kind-numbered, judged}
 use Rattle.dock.specs.Streams.{State, collecting, stopped, run, after, next, out, received, Reached, Told}
 use Rattle.frames.proofs.Judgments.{Judgment, no-length, too-short, too-long, passed, no-kind, unknown, no-end, whole, bad-check}
-use Rattle.frames.proofs.Judgments.{judgment, Tells, judged-tells, number-front, Going, going}
+use Rattle.frames.proofs.Judgments.{judgment, Tells, judged-tells, number-front, Going, going, length-stops, kind-stops, check-stops}
 use Rattle.dock.specs.Held.{feeding}
 use Rattle.dock.specs.Host.{stream-of, host-of, host-told, host-fed, host-left, host-feeding}
 use Rattle.dock.proofs.Feeding.{stopped-from}
@@ -82,6 +83,31 @@ module _ (bs : List ℕ) (b : ℕ) (g : Going bs) where
 -- A stream that collects stops with a fault at the byte where it can first be told, and only where the frame has it
 pub stops-in-time : (bs : List ℕ) (b : ℕ) (f : Fault) → Reached (collecting bs) → judged (bs ++ (b ∷ [])) ≡ Stopped f → Told f (bs ++ (b ∷ []))
 stops-in-time bs b f r e = subst (InTime (bs ++ (b ∷ []))) e (in-time bs b (reached-going bs r) (judgment (bs ++ (b ∷ []))))
+
+-- And each fault stops it, as soon as it can be told: a length
+pub length-fault-stops : (bs : List ℕ) → Told BadLength bs → judged bs ≡ Stopped BadLength
+length-fault-stops bs t = length-stops bs (omega (arith, t .now)) (t .why)
+
+-- a kind, behind a length that passed; a check, behind a head that passed
+module _ (bs : List ℕ) (b : ℕ) (r : Reached (collecting bs)) where
+  size : length (bs ++ (b ∷ [])) ≡ length bs + 1
+  size = length-append bs (b ∷ [])
+
+  pub kind-fault-stops : Told UnknownKind (bs ++ (b ∷ [])) → judged (bs ++ (b ∷ [])) ≡ Stopped UnknownKind
+  kind-fault-stops t =
+      let l : 2 ≤ length bs = omega (arith, size, t .now) in
+      let g = reached-going bs r .length-good l in
+      kind-stops (bs ++ (b ∷ [])) (little-endian-at 0 bs) (sym (number-front 0 bs (b ∷ []) l)) (g .0) (g .1)
+      (omega (arith, t .now)) (omega (arith, t .now, g .0)) (t .why)
+
+  pub check-fault-stops : 4 ≤ length bs → Told BadCheck (bs ++ (b ∷ [])) → judged (bs ++ (b ∷ [])) ≡ Stopped BadCheck
+  check-fault-stops l t =
+      let two : 2 ≤ length bs = omega arith in
+      let g = reached-going bs r .length-good two in
+      let k = reached-going bs r .kind-known l in
+      let a : little-endian-at 0 (bs ++ (b ∷ [])) ≡ little-endian-at 0 bs = sym (number-front 0 bs (b ∷ []) two) in
+      check-stops (bs ++ (b ∷ [])) (little-endian-at 0 bs) a (g .0) (g .1) (omega (arith, size)) (omega (arith, t .now, a)) (k .0)
+      (ap kind-numbered (sym (number-front 2 bs (b ∷ []) l)) ∙ k .1) (omega (arith, t .now, a)) (t .why)
 
 after-reached : (bs : List ℕ) (s : Step) → judged bs ≡ s → Tells (length bs) s → Reached (after s bs)
 unfolding after

@@ -3,6 +3,7 @@ use Prim.Native.Nat.{ℕ, _+_, _-_, _≤_, _<_}
 use mathlib.Core.Path.{_≡_, refl}
 use mathlib.Core.Bool.{Bool, true, false}
 use mathlib.Core.List.{List, _++_}
+use mathlib.Core.Logic.{_⊎_, inl, inr}
 use native.Mathlib.Omega.{arith}
 use borrow.Author.Tests.{ltb-true, ltb-false, lt-ltb, le-ltb}
 use lib.Dec.{ltb}
@@ -159,3 +160,24 @@ module _ (p : List ℕ) (n : ℕ) (a : little-endian-at 0 p ≡ n) (least : arou
   end-to-come k l b h =
       rw (le-ltb (length p) 2 (omega arith), a, le-ltb n around least, le-ltb longest n most, le-ltb n (length p) (omega arith), le-ltb (length p) 4 l, b)
       (rw (a, lt-ltb (length p) n h))
+
+-- a fault stops -----------------------------------------------------------------------------------------------------------------
+
+pub length-stops : (p : List ℕ) → 2 ≤ length p → (little-endian-at 0 p < around) ⊎ (longest < little-endian-at 0 p) → judged p ≡ Stopped BadLength
+unfolding judged judged-by-head checked
+length-stops p l (inl h) = rw (le-ltb (length p) 2 l, lt-ltb (little-endian-at 0 p) around h)
+length-stops p l (inr h) = rw (le-ltb (length p) 2 l, le-ltb (little-endian-at 0 p) around (omega arith), lt-ltb longest (little-endian-at 0 p) h)
+
+module _ (p : List ℕ) (n : ℕ) (a : little-endian-at 0 p ≡ n) (least : around ≤ n) (most : n ≤ longest) (there : 4 ≤ length p) (within : length p ≤ n) where
+  head-passed : judged-by-head p ≡ by-kind (kind-numbered (little-endian-at 2 p)) p
+  unfolding judged-by-head
+  head-passed =
+      rw (le-ltb (length p) 2 (omega arith), a, le-ltb n around least, le-ltb longest n most, le-ltb n (length p) within, le-ltb (length p) 4 there)
+
+  pub kind-stops : kind-numbered (little-endian-at 2 p) ≡ Unknown → judged p ≡ Stopped UnknownKind
+  unfolding judged checked by-kind
+  kind-stops e = rw (head-passed, e)
+
+  pub check-stops : (k : Kind) → kind-numbered (little-endian-at 2 p) ≡ Known k → n ≤ length p → check-right p ≡ false → judged p ≡ Stopped BadCheck
+  unfolding judged checked by-kind
+  check-stops k e h c = rw (head-passed, e, a, le-ltb (length p) n h, c)

@@ -74,6 +74,7 @@ body-at n bs = take n (drop 4 bs)
 
 -- Bytes of a frame, judged -----------------------------------------------------------------------------------------------
 
+-- by the kind: a known one goes on to the frame's last byte, as its length says
 unfoldable pub by-kind : NamedKind → List ℕ → Step
 by-kind (Known k) bs =
     if ltb (length bs) (little-endian-at 0 bs) then NotYet (in-frame (length bs)) else Whole k (in-body (length bs - around))
