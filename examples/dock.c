@@ -74,7 +74,7 @@ typedef struct wire {
 /* One end of a direction: where its stream is, the bytes that it lends, and how many frames came whole. */
 typedef struct receiver {
     dock_stream stream;
-    uint8_t frame[DOCK_LONGEST_FRAME];
+    dock_frame frame;
     size_t frames;
 } receiver;
 
@@ -131,7 +131,7 @@ static void send_frame(wire *to, uint16_t kind, const uint8_t *body, size_t size
 static void receive_piece(const uint8_t *piece, size_t length, handler handle)
 {
     while (length > 0) {
-        dock_fed fed = dock_feed(receiving.stream, receiving.frame, piece, length);
+        dock_fed fed = dock_feed(receiving.stream, &receiving.frame, piece, length);
         receiving.stream = fed.stream;
         piece += fed.taken;
         length -= fed.taken;

@@ -7,7 +7,7 @@
  * Link libfirmware.a (`make library`). The library takes no memory of its own and keeps nothing between calls. Calls on different buffers may run
  * at the same time. That the functions do what is said here is proved for every input, in crates/remainder, frames and dock (docs/CLAIMS.md).
  *
- * What a caller owes: each pointer is good for the length that follows it, `frame` for its DOCK_LONGEST_FRAME bytes, for the whole call; nothing
+ * What a caller owes: each pointer is good for the length that follows it, `frame` for a whole dock_frame, for the whole call; nothing
  * else writes what is lent meanwhile; and neither frame and piece nor body and room overlap. piece, body and room may be NULL where their length is
  * 0; frame may not. Everything else is handled: no byte, no length and no value of a stream leads to anything but the answers below.
  *
@@ -64,9 +64,12 @@ enum {
     DOCK_LONGEST_BODY = 1557
 };
 
+/* The bytes that a host lends, in which a frame is collected. A pointer to an array of another size does not compile. */
+typedef uint8_t dock_frame[DOCK_LONGEST_FRAME];
+
 /*
- * Where a stream is. The host keeps it, together with the DOCK_LONGEST_FRAME bytes that it lends as `frame`, in which the frame that is not yet whole
- * is collected; both go from one call to the next as the call left them.
+ * Where a stream is. The host keeps it, together with the bytes that it lends as `frame`, in which the frame that is not yet whole is collected;
+ * both go from one call to the next as the call left them.
  *
  * Every value has a meaning. stop above 3 counts as 1. With stop not 0 the stream has stopped, and collected is of no account. With collected of
  * 1,563 or more, the next byte stops it with 1 and is not stored. Lent bytes that the host has changed are judged with the next byte, as always; a
@@ -80,7 +83,7 @@ typedef struct dock_stream {
 /*
  * What came of a call of dock_feed.
  *
- *   kind not 0            a whole frame, right in all its parts. Its body is `size` bytes from frame + DOCK_HEAD on, until the next call with a byte
+ *   kind not 0            a whole frame, right in all its parts. Its body is `size` lent bytes from DOCK_HEAD on, until the next call with a byte
  *   kind 0, stop 0        not a whole frame yet: no fault, the next piece goes on with it
  *   kind 0, stop 1 to 3   the stream has stopped; it answers this to every piece, until it begins anew by dock_start
  */
@@ -98,7 +101,7 @@ dock_stream dock_start(void);
  * Takes the bytes of a piece, one after another, up to the end of a frame. A piece is handed over by
  *
  *   while (length > 0) {
- *       dock_fed fed = dock_feed(stream, frame, piece, length);
+ *       dock_fed fed = dock_feed(stream, &frame, piece, length);
  *       stream = fed.stream;
  *       piece += fed.taken;
  *       length -= fed.taken;
@@ -109,15 +112,15 @@ dock_stream dock_start(void);
  * after which stream.stop tells whether it has stopped. However a stream is cut into pieces, the same bodies come out with their kinds, and the same
  * value is left in the stream and the same bytes in what is lent.
  *
- * A byte goes to frame[collected], and what is then collected is judged. A whole frame ends the call, with collected 0: the rest of the piece is
- * for the next call. A fault sets stop, with collected 0, and the rest of the piece is taken and dropped: the frames before it have come out. A
- * stream that has stopped takes and drops every byte, and leaves the lent bytes as they are. Of `frame` only the bytes that a byte went to change. An
- * empty piece leaves value and lent bytes as they are, but that stop above 3 becomes 1, and collected 0 where the stream has stopped.
+ * A byte goes to the lent bytes at `collected`, and what is then collected is judged. A whole frame ends the call, with collected 0: the rest of
+ * the piece is for the next call. A fault sets stop, with collected 0, and the rest of the piece is taken and dropped: the frames before it have
+ * come out. A stream that has stopped takes and drops every byte, and leaves the lent bytes as they are. Of these only the bytes that a byte went to
+ * change. An empty piece leaves value and lent bytes as they are, but that stop above 3 becomes 1, and collected 0 where the stream has stopped.
  *
  * After a stop nothing says where the next frame begins: both sides agree on a place (a pause, a new connection), and the stream goes on by
  * dock_start.
  */
-dock_fed dock_feed(dock_stream stream, uint8_t frame[DOCK_LONGEST_FRAME], const uint8_t *piece, size_t piece_len);
+dock_fed dock_feed(dock_stream stream, dock_frame *frame, const uint8_t *piece, size_t piece_len);
 
 /*
  * Puts the body as a frame of its kind at the front of the room, in body_len + DOCK_AROUND bytes, and returns DOCK_WRITTEN; the rest of the room

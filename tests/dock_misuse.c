@@ -22,7 +22,7 @@ enum {
 /* The lent bytes and a room, with bytes around them that no call may change. */
 typedef struct fixture {
     uint8_t before[GUARD];
-    uint8_t frame[DOCK_LONGEST_FRAME];
+    dock_frame frame;
     uint8_t between[GUARD];
     uint8_t room[DOCK_LONGEST_FRAME + 2];
     uint8_t behind[GUARD];
@@ -82,7 +82,7 @@ static void lend(const uint8_t *bytes, size_t length)
 
 static void feed(const uint8_t *piece, size_t length)
 {
-    fed = dock_feed(now.stream, now.frame, piece, length);
+    fed = dock_feed(now.stream, &now.frame, piece, length);
     now.stream = fed.stream;
 }
 

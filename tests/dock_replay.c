@@ -147,7 +147,7 @@ static bool take_stream(void)
 /* One call, and how many bytes it took: of a piece that has any, at least one. */
 static size_t feed(const uint8_t *piece, size_t length)
 {
-    dock_fed fed = dock_feed(stream, frame.bytes, piece, length);
+    dock_fed fed = dock_feed(stream, (dock_frame *)frame.bytes, piece, length);
     stream = fed.stream;
     put_fed(fed);
     if (fed.taken > length || (fed.taken == 0 && length > 0))

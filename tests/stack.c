@@ -41,7 +41,7 @@ static unsigned done, counted, appended, acknowledged, stepped, refused[256];
 static uint8_t before[ELEMENT_LARGEST_STORE];
 
 /* A stream of frames, a piece of it and a room for a frame; the calls that ended with a frame, and with each stop. */
-static uint8_t lent[DOCK_LONGEST_FRAME];
+static dock_frame lent;
 static dock_stream stream;
 static dock_fed fed;
 static uint8_t piece[DOCK_LONGEST_FRAME];
@@ -133,7 +133,7 @@ static void call_dock_start(void)
 static void call_dock_feed(void)
 {
     frame = __builtin_frame_address(0);
-    fed = dock_feed(stream, lent, piece, piece_len);
+    fed = dock_feed(stream, &lent, piece, piece_len);
 }
 
 static void call_dock_write_command(void)
