@@ -28,6 +28,7 @@ use Rattle.dock.specs.Held.{Feeding, step-of, stream-after, buffer-after
 use Rattle.dock.specs.Parts.{Parting, reach, parted, judged-part, collecting-part, part}
 use Rattle.dock.proofs.Stepping.{front-more}
 use Rattle.dock.proofs.Ahead.{Next, reached}
+use Rattle.dock.proofs.Parting.{put-fits}
 
 -- a stopped stream passes over all that is left
 pub stopped-from : (i : ℕ) (f : Fault) (buffer bs : List ℕ)
@@ -141,7 +142,7 @@ module _ (n : ℕ) (buffer bs : List ℕ) (size : length buffer ≡ longest) (lo
   k = min (m - n) (length bs)
 
   k-fits : n + length (take k bs) ≤ length buffer
-  k-fits = omega (arith, length-take-le k bs (omega arith), reached n buffer bs .ahead, reached n buffer bs .within (omega (arith, front-size)), front-size)
+  k-fits = put-fits n m buffer bs refl size low k refl
 
   k-some : 0 < length bs → 0 < k
   k-some some = omega (arith, reached n buffer bs .ahead, front-size)

@@ -1,4 +1,4 @@
--- A stream as a host holds it: its value, and the lent bytes in which a frame is collected.
+-- A stream as the code holds it: its value, and the lent bytes in which a frame is collected.
 use Prim.Native.Nat.{ℕ, _+_}
 use mathlib.Core.List.{List, [], _∷_, _++_}
 use lib.Dec.{ltb}

@@ -136,7 +136,7 @@ fn take_part(stream: Stream, frame: &mut [u8], bytes: &[u8]) -> Part
     }
 }
 
-// The stream after a byte.
+// The stream after a step.
 fn stream_after(step: Step) -> Stream
     ensures { λ r. ⌜ r ≡ stream-after step ⌝ }
 {
