@@ -100,6 +100,17 @@ fn read_held(input: &mut impl Read) -> io::Result<Item> {
     Ok(Item::Held { stream, lent })
 }
 
+/// What came of an item, or of one call of `feed`.
+#[derive(Clone, Copy, Debug, PartialEq, Eq)]
+pub enum Came<'a> {
+    New,
+    Held,
+    /// With the lent bytes after the call.
+    Fed(Fed, &'a Lent),
+    /// With the number of the frame writer and the room after it.
+    Written(u8, &'a [u8]),
+}
+
 /// The present stream of a replay and the bytes lent to it.
 #[derive(Clone, Debug, PartialEq, Eq)]
 pub struct State {
@@ -140,26 +151,29 @@ impl State {
         }
     }
 
-    /// Takes one item and prints its lines.
-    fn take(&mut self, item: Item, output: &mut impl Write) -> io::Result<()> {
+    /// Takes one item; `see` gets what came of it, of a piece once for each call of `feed`.
+    pub fn take<E>(
+        &mut self,
+        item: Item,
+        mut see: impl FnMut(Came) -> Result<(), E>,
+    ) -> Result<(), E> {
         match item {
             Item::New { fill } => {
                 *self = State::new(fill);
-                output.write_all(b"N\n")
+                see(Came::New)
             }
             Item::Held { stream, lent } => {
                 *self = State { stream, lent };
-                output.write_all(b"H\n")
+                see(Came::Held)
             }
-            Item::Piece(piece) => self.feed_all(&piece, |fed, lent| print_fed(output, fed, lent)),
+            Item::Piece(piece) => self.feed_all(&piece, |fed, lent| see(Came::Fed(fed, lent))),
             Item::Write {
                 kind,
                 mut room,
                 body,
             } => {
-                write!(output, "W {} ", write_number(kind, &body, &mut room))?;
-                write_hex(output, &room)?;
-                output.write_all(b"\n")
+                let number = write_number(kind, &body, &mut room);
+                see(Came::Written(number, &room))
             }
         }
     }
@@ -170,6 +184,20 @@ pub fn write_number(kind: Kind, body: &[u8], room: &mut [u8]) -> u8 {
     match write_frame(kind, body, room) {
         Ok(()) => 0,
         Err(refusal) => refusal.number(),
+    }
+}
+
+/// Prints the line of an item or of one call of `feed`.
+fn print(output: &mut impl Write, came: Came) -> io::Result<()> {
+    match came {
+        Came::New => output.write_all(b"N\n"),
+        Came::Held => output.write_all(b"H\n"),
+        Came::Fed(fed, lent) => print_fed(output, fed, lent),
+        Came::Written(number, room) => {
+            write!(output, "W {number} ")?;
+            write_hex(output, room)?;
+            output.write_all(b"\n")
+        }
     }
 }
 
@@ -196,7 +224,7 @@ pub fn run(input: &mut impl Read, output: &mut impl Write) -> io::Result<()> {
     let mut state = State::new(0);
     loop {
         match Item::read(input) {
-            Ok(Some(item)) => state.take(item, output)?,
+            Ok(Some(item)) => state.take(item, |came| print(output, came))?,
             Ok(None) => return Ok(()),
             Err(error) if is_bad_input(&error) => return output.write_all(b"bad\n"),
             Err(error) => return Err(error),

@@ -20,6 +20,7 @@ pub mod replay;
 pub mod session;
 pub mod store;
 pub mod text;
+pub mod whole;
 
 pub use engine::{execute, Answer};
 pub use factory::make_factory_store;

@@ -81,7 +81,8 @@ impl Item {
     }
 }
 
-fn session_bytes(session: Session) -> [u8; 4] {
+/// The session as items and answers have it.
+pub(crate) fn session_bytes(session: Session) -> [u8; 4] {
     [
         u8::from(session.opened),
         session.lcsg,
@@ -139,6 +140,25 @@ fn read_session(input: &mut impl Read) -> io::Result<Session> {
     })
 }
 
+/// What came of an item.
+#[derive(Clone, Debug, PartialEq, Eq)]
+pub enum Came {
+    Store {
+        is_sound: bool,
+    },
+    /// With the room after the command.
+    Command {
+        outcome: u8,
+        room: Vec<u8>,
+    },
+    Bytes,
+    /// With the buffer after the factory maker.
+    Factory {
+        outcome: u8,
+        buffer: Vec<u8>,
+    },
+}
+
 /// The present store and session of a replay.
 #[derive(Clone, Debug, PartialEq, Eq)]
 pub struct State {
@@ -163,38 +183,53 @@ impl State {
     }
 
     /// Runs the factory maker; its store becomes the present one if it makes one.
-    pub fn factory(&mut self, length: usize) -> (u8, u32) {
+    /// Gives the outcome and the buffer after it.
+    pub fn factory(&mut self, length: usize) -> (u8, Vec<u8>) {
         let mut buffer = vec![FACTORY_FILL; length];
         let outcome = make_factory_store(&mut buffer);
-        let checksum = adler32(&buffer);
         if outcome == 0 {
-            self.store = buffer;
+            self.store.clone_from(&buffer);
             self.session = fresh_session();
         }
-        (outcome, checksum)
+        (outcome, buffer)
     }
 
-    /// Takes one item and prints its line.
-    fn take(&mut self, item: Item, output: &mut impl Write) -> io::Result<()> {
+    /// Takes one item: the store and session are then those after it.
+    pub fn take(&mut self, item: Item) -> Came {
         match item {
             Item::Store { store, session } => {
                 *self = State { store, session };
-                write!(output, "S {}", u8::from(check_store(&self.store)))?;
+                let is_sound = check_store(&self.store);
+                Came::Store { is_sound }
             }
             Item::Command { mut room, command } => {
                 let outcome = self.execute(&command, &mut room);
+                Came::Command { outcome, room }
+            }
+            Item::Bytes => Came::Bytes,
+            Item::Factory { length } => {
+                let (outcome, buffer) = self.factory(length);
+                Came::Factory { outcome, buffer }
+            }
+        }
+    }
+
+    /// Prints the line of an item that was just taken.
+    fn print(&self, came: &Came, output: &mut impl Write) -> io::Result<()> {
+        match came {
+            Came::Store { is_sound } => write!(output, "S {}", u8::from(*is_sound))?,
+            Came::Command { outcome, room } => {
                 write!(output, "C {outcome} ")?;
                 write_hex(output, &session_bytes(self.session))?;
                 write!(output, " {:08X} ", adler32(&self.store))?;
-                write_hex(output, &room)?;
+                write_hex(output, room)?;
             }
-            Item::Bytes => {
+            Came::Bytes => {
                 output.write_all(b"B ")?;
                 write_hex(output, &self.store)?;
             }
-            Item::Factory { length } => {
-                let (outcome, checksum) = self.factory(length);
-                write!(output, "F {outcome} {checksum:08X}")?;
+            Came::Factory { outcome, buffer } => {
+                write!(output, "F {outcome} {:08X}", adler32(buffer))?;
             }
         }
         output.write_all(b"\n")
@@ -206,7 +241,10 @@ pub fn run(input: &mut impl Read, output: &mut impl Write) -> io::Result<()> {
     let mut state = State::empty();
     loop {
         match Item::read(input) {
-            Ok(Some(item)) => state.take(item, output)?,
+            Ok(Some(item)) => {
+                let came = state.take(item);
+                state.print(&came, output)?;
+            }
             Ok(None) => return Ok(()),
             Err(error) if is_bad_input(&error) => return output.write_all(b"bad\n"),
             Err(error) => return Err(error),

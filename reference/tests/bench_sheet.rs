@@ -2,7 +2,10 @@
 
 mod common;
 
-use common::{chain, factory_store, get_data, hex, set_metadata, write, Element, DONE, OPEN};
+use common::{
+    chain, factory_of_the_paper, factory_store, get_data, hex, set_metadata, write, Element, DONE,
+    OPEN,
+};
 use reference::expression::{judge, CounterSet, States};
 use reference::store::{check_store, Slot};
 use reference::{fresh_session, make_factory_store, program, Session};
@@ -102,23 +105,7 @@ fn p12_factory_record() {
 
 #[test]
 fn factory_store_as_a_whole() {
-    let mut expected = Vec::new();
-    let numbers = (0xF1D0..=0xF1DB).chain(0xF1E0..=0xF1E1u16);
-    for number in numbers {
-        let maximum: u16 = if number < 0xF1E0 { 140 } else { 1_500 };
-        let start = expected.len();
-        expected.extend_from_slice(&(96 + maximum).to_le_bytes());
-        expected.extend_from_slice(&[0x01, 0x00]);
-        expected.extend_from_slice(&number.to_le_bytes());
-        expected.extend_from_slice(&maximum.to_le_bytes());
-        expected.extend_from_slice(&[0, 0, 1, 0]);
-        expected.extend_from_slice(&[3, 0xE1, 0xFC, 0x07]);
-        expected.resize(start + 12 + 28, 0);
-        expected.push(1);
-        expected.resize(start + 12 + 56, 0);
-        expected.push(1);
-        expected.resize(start + 96 + usize::from(maximum), 0);
-    }
+    let expected = factory_of_the_paper();
     assert_eq!(expected.len(), 6_024);
     assert_eq!(factory_store(), expected);
     assert!(check_store(&expected));

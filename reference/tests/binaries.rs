@@ -2,31 +2,9 @@
 
 mod common;
 
-use std::io::Write;
-use std::process::{Command, Output, Stdio};
-use std::thread;
+use std::process::Output;
 
-use common::{hex, OPEN};
-
-/// Runs a program with this input.
-fn run(program: &str, arguments: &[&str], input: &[u8]) -> Output {
-    let mut child = Command::new(program)
-        .args(arguments)
-        .stdin(Stdio::piped())
-        .stdout(Stdio::piped())
-        .stderr(Stdio::piped())
-        .spawn()
-        .unwrap();
-    let mut stdin = child.stdin.take().unwrap();
-    // Written while the output is read, so that neither waits for the other.
-    thread::scope(|scope| {
-        scope.spawn(move || {
-            // A program may end before it has read all.
-            let _ = stdin.write_all(input);
-        });
-        child.wait_with_output().unwrap()
-    })
-}
+use common::{hex, run, OPEN};
 
 fn bench(input: &[u8]) -> Vec<u8> {
     let output = run(env!("CARGO_BIN_EXE_bench"), &[], input);

@@ -1,4 +1,5 @@
-//! Writes generated cases, lists and mixes, and shows what the cases cover.
+//! Writes generated cases, lists, mixes and streams, also with what must come of them, and
+//! shows what they cover.
 
 use std::env;
 use std::io::{self, BufWriter, Write};
@@ -10,13 +11,16 @@ use reference::generator::cases::{cases, Case};
 use reference::generator::lists::list;
 use reference::generator::mixes::pair;
 use reference::generator::streams::{self, streams};
+use reference::whole;
 
 const USAGE: &str = "usage: generate cases SEED COUNT
        generate lists SEED INDEX
        generate mixes SEED COUNT
        generate coverage SEED COUNT
        generate streams SEED COUNT
-       generate dock-coverage SEED COUNT";
+       generate dock-coverage SEED COUNT
+       generate whole SEED COUNT
+       generate whole-streams SEED COUNT";
 
 fn main() -> ExitCode {
     let arguments: Vec<String> = env::args().skip(1).collect();
@@ -29,6 +33,8 @@ fn main() -> ExitCode {
         "lists" => write_list(seed, number),
         "mixes" => write_mixes(seed, number),
         "streams" => write_streams(seed, number),
+        "whole" => write_whole(seed, number),
+        "whole-streams" => write_whole_streams(seed, number),
         "coverage" => return show_coverage(seed, number),
         "dock-coverage" => return show_dock_coverage(seed, number),
         _ => {
@@ -79,6 +85,18 @@ fn write_streams(seed: u64, count: u64) -> io::Result<()> {
     let mut output = BufWriter::with_capacity(1 << 16, io::stdout().lock());
     let mut write_case = |case: streams::Case| case.item.write(&mut output);
     streams(seed, count as usize, &mut write_case)?;
+    output.flush()
+}
+
+fn write_whole(seed: u64, count: u64) -> io::Result<()> {
+    let mut output = BufWriter::with_capacity(1 << 16, io::stdout().lock());
+    whole::write_cases(seed, count as usize, &mut output)?;
+    output.flush()
+}
+
+fn write_whole_streams(seed: u64, count: u64) -> io::Result<()> {
+    let mut output = BufWriter::with_capacity(1 << 16, io::stdout().lock());
+    whole::write_streams(seed, count as usize, &mut output)?;
     output.flush()
 }
 

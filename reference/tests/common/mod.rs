@@ -1,5 +1,9 @@
-//! An element with a store and a session, for tests.
+//! An element with a store and a session, and a way to run programs, for tests.
 #![allow(dead_code)]
+
+use std::io::Write;
+use std::process::{Command, Output, Stdio};
+use std::thread;
 
 use reference::factory::FACTORY_SIZE;
 use reference::store::{find, Slot, DATA, LCSO, USED};
@@ -23,9 +27,51 @@ pub fn hex(text: &str) -> Vec<u8> {
         .collect()
 }
 
+/// Runs a program with this input.
+pub fn run(program: &str, arguments: &[&str], input: &[u8]) -> Output {
+    let mut child = Command::new(program)
+        .args(arguments)
+        .stdin(Stdio::piped())
+        .stdout(Stdio::piped())
+        .stderr(Stdio::piped())
+        .spawn()
+        .unwrap();
+    let mut stdin = child.stdin.take().unwrap();
+    // Written while the output is read, so that neither waits for the other.
+    thread::scope(|scope| {
+        scope.spawn(move || {
+            // A program may end before it has read all.
+            let _ = stdin.write_all(input);
+        });
+        child.wait_with_output().unwrap()
+    })
+}
+
 pub fn factory_store() -> Vec<u8> {
     let mut store = vec![0xEE; FACTORY_SIZE];
     assert_eq!(make_factory_store(&mut store), 0);
+    store
+}
+
+/// The factory store, put together by document 01.
+pub fn factory_of_the_paper() -> Vec<u8> {
+    let mut store = Vec::new();
+    let numbers = (0xF1D0..=0xF1DB).chain(0xF1E0..=0xF1E1u16);
+    for number in numbers {
+        let maximum: u16 = if number < 0xF1E0 { 140 } else { 1_500 };
+        let start = store.len();
+        store.extend_from_slice(&(96 + maximum).to_le_bytes());
+        store.extend_from_slice(&[0x01, 0x00]);
+        store.extend_from_slice(&number.to_le_bytes());
+        store.extend_from_slice(&maximum.to_le_bytes());
+        store.extend_from_slice(&[0, 0, 1, 0]);
+        store.extend_from_slice(&[3, 0xE1, 0xFC, 0x07]);
+        store.resize(start + 12 + 28, 0);
+        store.push(1);
+        store.resize(start + 12 + 56, 0);
+        store.push(1);
+        store.resize(start + 96 + usize::from(maximum), 0);
+    }
     store
 }
 
