@@ -1,5 +1,5 @@
 # The commands of the README.
-.PHONY: demo test library tool speed
+.PHONY: demo test library c device tool speed
 
 # Runs a command whose output matters only where it fails.
 quietly = log=$$(mktemp); $(1) >$$log 2>&1 || { cat $$log; rm -f $$log; exit 1; }; rm -f $$log
@@ -19,6 +19,16 @@ test:
 library:
 	@tools/prove staticlib firmware
 	@echo target/staticlib/libfirmware.a
+
+# The library as C99 for other controllers, from the MIR that is proved: port/element.c and port/dock.c.
+c:
+	@tools/prove staticlib firmware
+	@port/make
+	@echo port/element.c port/dock.c
+
+# The C files on an emulated Cortex-M3, on cases with the bytes that must come of them, written by the reference.
+device:
+	@port/device/run
 
 # The command line tool over the library.
 tool: library

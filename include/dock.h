@@ -4,8 +4,9 @@
  * C99, with an int of more than 16 bits; it compiles as C++11 too. It stands beside element.h and needs nothing of it: a body is any bytes.
  * docs/INTEGRATION.md has a function that receives a piece and answers each command. Its version is that of element.h.
  *
- * Link libfirmware.a (`make library`). The library takes no memory of its own and keeps nothing between calls. Calls on different buffers may run
- * at the same time. That the functions do what is said here is proved for every input, in crates/remainder, frames and dock (docs/CLAIMS.md).
+ * On x86-64 link libfirmware.a (`make library`), on other controllers compile port/dock.c. The library takes no memory of its own and keeps nothing
+ * between calls. Calls on different buffers may run at the same time. That the functions do what is said here is proved for every input, in
+ * crates/remainder, frames and dock (docs/CLAIMS.md).
  *
  * What a caller owes: each pointer is good for the length that follows it, `frame` for a whole dock_frame, for the whole call; nothing
  * else writes what is lent meanwhile; and neither frame and piece nor body and room overlap. piece, body and room may be NULL where their length is

@@ -4,8 +4,9 @@
  * C99, with an int of more than 16 bits; it compiles as C++11 too. Every byte of commands, responses, metadata and the store is explained in
  * docs/FORMATS.md.
  *
- * Link libfirmware.a (`make library`). The library takes no memory of its own, keeps nothing between calls, and calls nothing but memset. Calls
- * on different buffers may run at the same time.
+ * On x86-64 link libfirmware.a (`make library`), on other controllers compile port/element.c. The library takes no memory of its own, keeps nothing
+ * between calls, and calls nothing but memset (element.c: also memcpy and memmove, as the compiler puts them in). Calls on different buffers may run
+ * at the same time.
  *
  * What a caller owes: each pointer is good for the length that follows it, for the whole call; nothing else writes what is lent meanwhile;
  * and no two buffers of one call overlap, except that `const` ones may. A pointer whose length is 0 may be NULL; a session may not.

@@ -844,6 +844,24 @@ static void check_cut_stores(void)
         "refusal 06 for a store of a byte too many");
 }
 
+/*
+ * Zeros are due behind each expression of a slot and past used. One byte that is not zero there, and two equal ones, which cancel out in a sum by
+ * exclusive or, make the store malformed.
+ */
+static void check_zeros(void)
+{
+    static const struct { size_t at, length; } zeros[] = {{16, 24}, {42, 26}, {70, 26}, {96, 140}}; /* of F1D0: three slots, data */
+    for (size_t i = 0; i < sizeof zeros / sizeof zeros[0]; i++)
+        for (size_t first = zeros[i].at; first < zeros[i].at + zeros[i].length; first++)
+            for (size_t second = first; second < zeros[i].at + zeros[i].length; second += 7) {
+                begin_open();
+                now.store[first] = now.store[second] = 0x5A;
+                expect(!element_check_store(now.store, STORE), "a store with 5A at %zu and %zu malformed", first, second);
+                was = now;
+                expect(execute(METADATA, sizeof METADATA, ROOM) == 0 && refused(0x06), "refusal 06 for a store with 5A at %zu and %zu", first, second);
+            }
+}
+
 /* Commands above 1,557 bytes, and stores above 16,384 bytes or 32 records. */
 
 static void check_long_commands(void)
@@ -1521,6 +1539,7 @@ int main(void)
     check_errors();
     check_factory();
     check_cut_stores();
+    check_zeros();
     check_long_commands();
     check_large_stores();
     check_counts();
