@@ -12,6 +12,10 @@ fn a_table_that_fits() {
     assert!(text.starts_with("/*\n * A library, in portable C99: what lib.h declares.\n"));
     assert!(text.contains("with a kit.\n"));
     assert!(text.contains("\nuint8_t entry(const uint8_t *bytes, size_t bytes_len)\n{\n"));
+    // C adds nothing to NULL: where it comes with a length of 0, the address of a local stands in.
+    assert!(text.contains(
+        ".at = bytes != NULL ? bytes : (const uint8_t *)&nothing, .length = bytes_len }"
+    ));
 }
 
 #[test]
