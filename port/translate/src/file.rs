@@ -4,7 +4,7 @@ use crate::body::Body;
 use crate::header::{Declared, Header};
 use crate::interface::{c_name, Interface};
 use crate::mir::{Function, Program, Ty};
-use crate::types::{declarator, identifier, Declarations, Types};
+use crate::types::{declarator, identifier, parameter_list, Declarations, Types};
 use crate::Answer;
 use std::collections::BTreeSet;
 use std::fmt::Write;
@@ -19,43 +19,34 @@ pub fn print(
     interface.check(header, program)?;
     let types = Types { program, interface };
     let functions = reached(program, &interface.functions)?;
-    let names: BTreeSet<String> = functions
-        .iter()
-        .map(|function| identifier(&function.name))
-        .collect();
+    let names: BTreeSet<String> = functions.iter().map(|one| identifier(&one.name)).collect();
     if names.len() != functions.len() {
         return Err("two functions have one name in C".to_string());
     }
+    let mut text = head(interface, kit) + &own_functions(types, &functions)?;
+    for name in &interface.functions {
+        let parameters = &header.functions[c_name(name)].parameters;
+        let entry = entry(types, program.function(name)?, parameters);
+        text += &entry.map_err(|why| format!("{name}: {why}"))?;
+    }
+    Ok(text)
+}
+
+/// The functions of MIR, behind the types and prototypes that they need.
+fn own_functions(types: Types, functions: &[&Function]) -> Answer<String> {
     let mut declarations = Declarations::new(types);
     let (mut prototypes, mut bodies) = (String::new(), String::new());
     for function in functions {
         let refused = |why| format!("{}: {why}", function.name);
         let body = Body::of(types, function).map_err(refused)?;
-        body.locals
-            .iter()
-            .try_for_each(|ty| declarations.declare(ty))
-            .map_err(refused)?;
-        writeln!(
-            prototypes,
-            "static {};",
-            types.signature(function).map_err(refused)?
-        )
-        .unwrap();
+        for ty in &body.locals {
+            declarations.declare(ty).map_err(refused)?;
+        }
+        let signature = types.signature(function).map_err(refused)?;
+        writeln!(prototypes, "static {signature};").unwrap();
         bodies += &body.print().map_err(refused)?;
     }
-    for name in &interface.functions {
-        let entry = entry(
-            types,
-            program.function(name)?,
-            &header.functions[c_name(name)].parameters,
-        );
-        bodies += &entry.map_err(|why| format!("{name}: {why}"))?;
-    }
-    Ok(format!(
-        "{}{}{prototypes}{bodies}",
-        head(interface, kit),
-        declarations.text
-    ))
+    Ok(declarations.text + &prototypes + &bodies)
 }
 
 /// The functions that these call, and theirs, in the order of the program.
@@ -116,45 +107,41 @@ typedef uint64_t usize;
     text
 }
 
-/// A function of the header: slices from a pointer and a length. Where NULL comes with a length of 0, the address of a local stands in:
-/// C adds nothing to NULL.
+/// A function of the header, which calls that of MIR.
 fn entry(types: Types, function: &Function, parameters: &[Declared]) -> Answer<String> {
     let (mut rest, mut arguments, mut nothing) = (parameters, Vec::new(), "");
     for ty in &function.locals[1..=function.parameters] {
         let (own, others) = rest.split_at(types.interface.parameter_types(ty)?.len());
         rest = others;
-        arguments.push(match (ty, own) {
-            (Ty::Slice { .. }, [at, length]) => {
-                nothing = "    size_t nothing = 0; /* lent in place of NULL */\n";
-                let (slice, pointer, at, length) =
-                    (types.name(ty)?, &at.ty, &at.name, &length.name);
-                format!("({slice}){{ .at = {at} != NULL ? {at} : ({pointer})&nothing, .length = {length} }}")
-            }
-            (Ty::Ref { to, .. }, [pointer]) if to.elements().is_some() => {
-                format!("*{}", pointer.name)
-            }
-            (_, [value]) => value.name.clone(),
-            _ => return Err(format!("no parameter of C for {ty}")),
-        });
+        arguments.push(argument(types, ty, own)?);
+        if let Ty::Slice { .. } = ty {
+            nothing = "    size_t nothing = 0; /* lent in place of NULL */\n";
+        }
     }
-    let result = types.name(&function.locals[0])?;
-    let listed: Vec<String> = parameters
-        .iter()
-        .map(|p| declarator(&p.ty, &p.name))
-        .collect();
-    let listed = if listed.is_empty() {
-        "void".to_string()
-    } else {
-        listed.join(", ")
-    };
-    let head = declarator(&result, &format!("{}({listed})", c_name(&function.name)));
-    let call = format!(
-        "{}({})",
-        identifier(&function.name),
-        arguments.join(",\n        ")
+    let listed = parameters.iter().map(|one| declarator(&one.ty, &one.name));
+    let listed = parameter_list(&listed.collect::<Vec<_>>());
+    let (own, name) = (c_name(&function.name), &function.name);
+    let head = declarator(
+        &types.name(&function.locals[0])?,
+        &format!("{own}({listed})"),
     );
-    Ok(format!(
-        "\n/* {} for C */\n{head}\n{{\n{nothing}    return {call};\n}}\n",
-        function.name
-    ))
+    let (called, arguments) = (identifier(name), arguments.join(",\n        "));
+    let body = format!("{nothing}    return {called}({arguments});\n");
+    Ok(format!("\n/* {name} for C */\n{head}\n{{\n{body}}}\n"))
+}
+
+/// What MIR's function is given for parameters of C: a slice from a pointer and a length. Where NULL comes with a length of 0, the address
+/// of a local stands in: C adds nothing to NULL.
+fn argument(types: Types, ty: &Ty, own: &[Declared]) -> Answer<String> {
+    match (ty, own) {
+        (Ty::Slice { .. }, [pointer, length]) => {
+            let (slice, given) = (types.name(ty)?, &pointer.ty);
+            let (at, length) = (&pointer.name, &length.name);
+            let at = format!("{at} != NULL ? {at} : ({given})&nothing");
+            Ok(format!("({slice}){{ .at = {at}, .length = {length} }}"))
+        }
+        (Ty::Ref { to, .. }, [array]) if to.elements().is_some() => Ok(format!("*{}", array.name)),
+        (_, [value]) => Ok(value.name.clone()),
+        _ => Err(format!("no parameter of C for {ty}")),
+    }
 }

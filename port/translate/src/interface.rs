@@ -37,32 +37,11 @@ pub fn read(table: &str) -> Answer<Vec<Interface>> {
         let refused = |why: &str| format!("line {} of the interface: {why}: {line}", number + 1);
         match (words.as_slice(), files.last_mut()) {
             ([], _) | (["#", ..], _) => {}
-            (["file", file, "header", header, "about", about @ ..], _) => files.push(Interface {
-                file: file.to_string(),
-                header: header.to_string(),
-                about: about.join(" "),
-                structs: Vec::new(),
-                arrays: Vec::new(),
-                functions: Vec::new(),
-            }),
+            (["file", file, "header", header, "about", about @ ..], _) => {
+                files.push(Interface::new(file, header, about.join(" ")))
+            }
+            (words, Some(file)) => file.add(words).map_err(|why| refused(&why))?,
             (_, None) => return Err(refused("no file before it")),
-            (["struct", c, "is", rattle, fields @ ..], Some(file)) => {
-                file.structs.push(HostStruct {
-                    c: c.to_string(),
-                    rattle: rattle.to_string(),
-                    fields: fields.iter().map(|field| field.to_string()).collect(),
-                })
-            }
-            (["bytes", c, length], Some(file)) => {
-                let length = length.parse().map_err(|_| refused("no number"))?;
-                let ty = Ty::Array(Box::new(Ty::Int(8)), length);
-                file.arrays.push(HostArray {
-                    c: c.to_string(),
-                    ty,
-                });
-            }
-            (["function", name], Some(file)) => file.functions.push(name.to_string()),
-            _ => return Err(refused("expected file, struct, bytes or function")),
         }
     }
     Ok(files)
@@ -74,6 +53,36 @@ pub fn c_name(function: &str) -> &str {
 }
 
 impl Interface {
+    fn new(file: &str, header: &str, about: String) -> Interface {
+        Interface {
+            file: file.to_string(),
+            header: header.to_string(),
+            about,
+            structs: Vec::new(),
+            arrays: Vec::new(),
+            functions: Vec::new(),
+        }
+    }
+
+    /// Takes a line of the table that is about this file.
+    fn add(&mut self, words: &[&str]) -> Answer<()> {
+        match words {
+            ["struct", c, "is", rattle, fields @ ..] => self.structs.push(HostStruct {
+                c: c.to_string(),
+                rattle: rattle.to_string(),
+                fields: fields.iter().map(|field| field.to_string()).collect(),
+            }),
+            ["bytes", c, length] => {
+                let length = length.parse().map_err(|_| "no number")?;
+                let (c, ty) = (c.to_string(), Ty::Array(Box::new(Ty::Int(8)), length));
+                self.arrays.push(HostArray { c, ty });
+            }
+            ["function", name] => self.functions.push(name.to_string()),
+            _ => return Err("expected file, struct, bytes or function".to_string()),
+        }
+        Ok(())
+    }
+
     pub fn host_struct(&self, rattle: &str) -> Option<&HostStruct> {
         self.structs.iter().find(|host| host.rattle == rattle)
     }

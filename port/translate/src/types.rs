@@ -32,6 +32,14 @@ pub fn declarator(ty: &str, name: &str) -> String {
     format!("{ty}{space}{name}")
 }
 
+/// What stands between the parentheses of a function's head.
+pub fn parameter_list(parameters: &[String]) -> String {
+    match parameters.is_empty() {
+        true => "void".to_string(),
+        false => parameters.join(", "),
+    }
+}
+
 /// A field of a struct: its name in C, its type, and whether it lies in C as a `size_t`.
 pub struct Field {
     pub name: String,
@@ -128,10 +136,7 @@ impl Types<'_> {
                 ))
             })
             .collect::<Answer<_>>()?;
-        let parameters = match parameters.is_empty() {
-            true => "void".to_string(),
-            false => parameters.join(", "),
-        };
+        let parameters = parameter_list(&parameters);
         let result = self.name(&function.locals[0])?;
         Ok(declarator(
             &result,
