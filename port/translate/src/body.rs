@@ -108,7 +108,9 @@ impl<'a> Body<'a> {
                 }
                 (Step::Variant(chosen), None) => variant = Some(*chosen),
                 (Step::Field(number), chosen) => {
-                    let field = self.types.field(&ty, chosen, *number)?;
+                    let fields = self.types.fields(&ty, chosen)?;
+                    let field = fields.into_iter().nth(*number);
+                    let field = field.ok_or_else(|| format!("{ty} has no field {number} here"))?;
                     text = format!("{text}{}{}", if behind { "->" } else { "." }, field.name);
                     (behind, is_size) = (false, field.is_size);
                     ty = field.ty;
@@ -260,30 +262,31 @@ impl<'a> Body<'a> {
         }
     }
 
-    /// A literal of C, of type `into`.
+    /// A literal of C, of type `into`: of an enum, whose tag is the first part and a constant, that variant's.
     fn aggregate(&self, into: &Ty, parts: &[Operand]) -> Answer<String> {
         let name = self.types.name(into)?;
-        if let (Ty::Named(full), Some(Operand::Int(8, tag))) = (into, parts.first()) {
-            if let Shape::Variants(_) = self.types.program.shape(full)? {
-                return self.variant(into, *tag as usize, &parts[1..]);
+        let shape = match into {
+            Ty::Array(of, length) => return self.elements(&name, of, *length, parts),
+            Ty::Named(full) => Some(self.types.program.shape(full)?),
+            _ => None,
+        };
+        let variant = match (shape, parts.first()) {
+            (Some(Shape::Variants(_)), Some(Operand::Int(8, tag))) => Some(*tag as usize),
+            (Some(Shape::Variants(_)), _) => {
+                return Err(format!("{into} of a variant that is not said"))
             }
-        }
-        if let Ty::Array(of, length) = into {
-            let texts: Vec<String> = parts
-                .iter()
-                .map(|part| self.operand_as(of, part))
-                .collect::<Answer<_>>()?;
-            return match texts.len() as u64 == *length {
-                true => Ok(format!("({name}){{ {{ {} }} }}", in_lines(&texts))),
-                false => Err(format!("{} elements of {into}", texts.len())),
-            };
-        }
-        if self.types.field(into, None, parts.len()).is_ok() {
-            return Err(format!("{} parts of {into}", parts.len()));
+            _ => None,
+        };
+        let fields = self.types.fields(into, variant)?;
+        if fields.len() != parts.len() {
+            return Err(format!(
+                "{} parts of {into}, not {}",
+                parts.len(),
+                fields.len()
+            ));
         }
         let mut texts = Vec::new();
-        for (number, part) in parts.iter().enumerate() {
-            let field = self.types.field(into, None, number)?;
+        for (field, part) in fields.iter().zip(parts) {
             let text = self.operand_as(&field.ty, part)?;
             // What the library gives as a size of the host's is at most one that the host has given.
             let cast = if field.is_size { "(size_t)" } else { "" };
@@ -292,21 +295,16 @@ impl<'a> Body<'a> {
         Ok(format!("({name}){{ {} }}", texts.join(", ")))
     }
 
-    fn variant(&self, into: &Ty, tag: usize, parts: &[Operand]) -> Answer<String> {
-        let name = self.types.name(into)?;
-        if self.types.field(into, Some(tag), parts.len() + 1).is_ok() {
-            return Err(format!("{} parts of variant {tag} of {into}", parts.len()));
+    /// A literal of an array of C, by its name there.
+    fn elements(&self, name: &str, of: &Ty, length: u64, parts: &[Operand]) -> Answer<String> {
+        if parts.len() as u64 != length {
+            return Err(format!("{} elements of [{of}; {length}]", parts.len()));
         }
-        let mut texts = vec![format!(".tag = {tag}u")];
-        for (number, part) in parts.iter().enumerate() {
-            let field = self.types.field(into, Some(tag), number + 1)?;
-            texts.push(format!(
-                ".{} = {}",
-                field.name,
-                self.operand_as(&field.ty, part)?
-            ));
-        }
-        Ok(format!("({name}){{ {} }}", texts.join(", ")))
+        let texts: Vec<String> = parts
+            .iter()
+            .map(|part| self.operand_as(of, part))
+            .collect::<Answer<_>>()?;
+        Ok(format!("({name}){{ {{ {} }} }}", in_lines(&texts)))
     }
 
     // ---- statements

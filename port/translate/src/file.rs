@@ -118,6 +118,9 @@ fn entry(types: Types, function: &Function, parameters: &[Declared]) -> Answer<S
             nothing = "    size_t nothing = 0; /* lent in place of NULL */\n";
         }
     }
+    if function.locals[0] == Ty::Int(64) {
+        return Err("a u64 as a result: C has size_t".to_string());
+    }
     let listed = parameters.iter().map(|one| declarator(&one.ty, &one.name));
     let listed = parameter_list(&listed.collect::<Vec<_>>());
     let (own, name) = (c_name(&function.name), &function.name);

@@ -1,4 +1,5 @@
 //! Prints the MIR of the proved library as portable C99: read, checked against its types and the headers, printed. What is not known is refused.
+//! `same` holds the MIR that is printed against the MIR in the terms that are checked.
 
 mod body;
 pub mod file;

@@ -89,45 +89,48 @@ impl Types<'_> {
         })
     }
 
-    /// A field of a struct or a slice, or of an enum seen as one of its variants, whose field 0 is the tag.
-    pub fn field(self, of: &Ty, variant: Option<usize>, number: usize) -> Answer<Field> {
-        let found = match (of, variant) {
-            (Ty::Slice { mutable, of }, None) => match number {
-                0 => Some(Field::new("at", Ty::reference(*mutable, (**of).clone()))),
-                1 => Some(Field::new("length", Ty::Int(64))),
-                _ => None,
-            },
+    /// The fields of a struct or a slice, or of an enum seen as one of its variants, whose first is the tag.
+    pub fn fields(self, of: &Ty, variant: Option<usize>) -> Answer<Vec<Field>> {
+        match (of, variant) {
+            (Ty::Slice { mutable, of }, None) => Ok(vec![
+                Field::new("at", Ty::reference(*mutable, (**of).clone())),
+                Field::new("length", Ty::Int(64)),
+            ]),
             (Ty::Named(name), _) => match (self.program.shape(name)?, variant) {
-                (Shape::Fields(fields), None) => fields
-                    .get(number)
-                    .map(|ty| self.struct_field(name, number, ty)),
-                (Shape::Variants(_), Some(_)) if number == 0 => Some(Field::new("tag", Ty::Int(8))),
+                (Shape::Fields(fields), None) => Ok(self.struct_fields(name, fields)),
                 (Shape::Variants(variants), Some(chosen)) => {
-                    let ty = variants
-                        .get(chosen)
-                        .and_then(|fields| fields.get(number - 1));
-                    ty.map(|ty| Field::new(format!("as.v{chosen}.f{number}"), ty.clone()))
+                    let fields = variants.get(chosen);
+                    let fields = fields.ok_or_else(|| format!("{name} has no variant {chosen}"))?;
+                    Ok(variant_fields(chosen, fields))
                 }
-                _ => None,
+                (Shape::Fields(_), Some(_)) => Err(format!("a variant of {name}, a struct")),
+                (Shape::Variants(_), None) => Err(format!("a field of {name}, an enum")),
             },
-            _ => None,
-        };
-        found.ok_or_else(|| format!("{of} has no field {number} here"))
+            (other, _) => Err(format!("a field of {other}")),
+        }
     }
 
-    fn struct_field(self, of: &str, number: usize, ty: &Ty) -> Field {
+    fn struct_fields(self, of: &str, types: &[Ty]) -> Vec<Field> {
+        let numbered = types.iter().enumerate();
         match self.interface.host_struct(of) {
-            None => Field::new(format!("f{number}"), ty.clone()),
-            Some(host) => Field {
-                name: host.fields[number].clone(),
-                ty: ty.clone(),
-                is_size: *ty == Ty::Int(64),
-            },
+            None => numbered
+                .map(|(number, ty)| Field::new(format!("f{number}"), ty.clone()))
+                .collect(),
+            Some(host) => numbered
+                .map(|(number, ty)| Field {
+                    name: host.fields[number].clone(),
+                    ty: ty.clone(),
+                    is_size: *ty == Ty::Int(64),
+                })
+                .collect(),
         }
     }
 
     /// The head of a function, without `static`.
     pub fn signature(self, function: &Function) -> Answer<String> {
+        if function.locals[1..=function.parameters].contains(&Ty::Unit) {
+            return Err("a parameter of type ()".to_string());
+        }
         let parameters: Vec<String> = (1..=function.parameters)
             .map(|number| {
                 Ok(declarator(
@@ -143,6 +146,15 @@ impl Types<'_> {
             &format!("{}({parameters})", identifier(&function.name)),
         ))
     }
+}
+
+/// The tag of an enum, and the fields of one of its variants.
+fn variant_fields(variant: usize, types: &[Ty]) -> Vec<Field> {
+    let held = types.iter().zip(1..);
+    let held = held.map(|(ty, number)| Field::new(format!("as.v{variant}.f{number}"), ty.clone()));
+    std::iter::once(Field::new("tag", Ty::Int(8)))
+        .chain(held)
+        .collect()
 }
 
 /// The name of a type within the name of another.
@@ -200,7 +212,7 @@ impl<'a> Declarations<'a> {
         match ty {
             Ty::Slice { of, .. } => {
                 self.declare(of)?;
-                let at = self.types.name(&self.types.field(ty, None, 0)?.ty)?;
+                let at = self.types.name(&self.types.fields(ty, None)?[0].ty)?;
                 Ok(format!(
                     "    {};\n    usize length;\n",
                     declarator(&at, "at")

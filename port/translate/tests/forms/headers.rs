@@ -111,3 +111,12 @@ fn a_table_that_is_not_known() {
         "line 6 of the interface: no number: bytes host_bytes six"
     );
 }
+
+/// A u64 is a size_t to C, which may have 32 bits: none is given back by value.
+#[test]
+fn a_size_as_a_result() {
+    let mir = program(&[&entry(&[], &[]).replacen("(local (tyInt 8) ", "(local (tyInt 64) ", 1)]);
+    let header = HEADER.replace("uint8_t entry(const", "size_t entry(const");
+    let why = translated(&mir, TABLE, &header).expect_err("it is refused");
+    assert_eq!(why, "lib::entry: a u64 as a result: C has size_t");
+}

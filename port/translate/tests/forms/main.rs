@@ -1,8 +1,9 @@
-//! The translator's tests: what it prints, by hand, and what it refuses.
+//! The tests of the translator and of `same`: what is printed, by hand, what is refused, and what is noticed.
 
 mod common;
 mod headers;
 mod layout;
 mod refusals;
+mod same;
 mod sexp;
 mod statements;

@@ -234,3 +234,80 @@ fn input_that_is_not_mir() {
         "expected a list of lcons, not (fnil)"
     );
 }
+
+const CHOICE: &str = "(tyNamed (pair \"lib::Choice\" lnil))";
+
+#[test]
+fn aggregates_of_other_parts() {
+    let made = |parts: &str| {
+        refusal(
+            &[CHOICE],
+            &[
+                &format!("(assign (place 6 lnil) (aggregate {parts}))"),
+                READ_CHOICE,
+            ],
+        )
+    };
+    assert_eq!(
+        made("(lcons (int 8 2) lnil)"),
+        "lib::entry: lib::Choice has no variant 2"
+    );
+    assert_eq!(
+        made("(lcons (int 8 0) (lcons (int 16 7) lnil))"),
+        "lib::entry: 2 parts of lib::Choice, not 1"
+    );
+    assert_eq!(
+        made("(lcons (int 8 1) lnil)"),
+        "lib::entry: 1 parts of lib::Choice, not 2"
+    );
+    assert_eq!(
+        made("(lcons (copy (place 2 lnil)) lnil)"),
+        "lib::entry: lib::Choice of a variant that is not said"
+    );
+    assert_eq!(
+        made("lnil"),
+        "lib::entry: lib::Choice of a variant that is not said"
+    );
+    let why = refused_value("(aggregate lnil)");
+    assert_eq!(why, "lib::entry: a field of u8");
+}
+
+/// Copies the tag of the enum, so that what is stored in it is printed.
+const READ_CHOICE: &str =
+    "(assign (place 0 lnil) (rvOpd (copy (place 6 (lcons (variant 1) (lcons (field 0) lnil))))))";
+
+#[test]
+fn a_variant_or_a_field_that_is_not_there() {
+    let read = |steps: &str| {
+        refusal(
+            &[CHOICE],
+            &[&format!(
+                "(assign (place 0 lnil) (rvOpd (copy (place 6 {steps}))))"
+            )],
+        )
+    };
+    let why = read("(lcons (variant 2) (lcons (field 0) lnil))");
+    assert_eq!(why, "lib::entry: lib::Choice has no variant 2");
+    let why = read("(lcons (variant 1) (lcons (field 2) lnil))");
+    assert_eq!(why, "lib::entry: lib::Choice has no field 2 here");
+    assert_eq!(
+        read("(lcons (field 0) lnil)"),
+        "lib::entry: a field of lib::Choice, an enum"
+    );
+    assert_eq!(
+        read("(lcons (variant 0) lnil)"),
+        "lib::entry: a variant as a whole"
+    );
+}
+
+#[test]
+fn a_unit_among_the_parameters() {
+    let locals = list(&["(local (tyInt 8) valueLocal)", "(local tyUnit valueLocal)"]);
+    let helper = function("lib::helper", 1, &locals, "return");
+    let call = "(call (direct (fnRef \"lib::helper\")) (lcons unit lnil) (place 0 lnil))";
+    let why = translated(&program(&[&helper, &entry(&[], &[call])]), TABLE, HEADER);
+    assert_eq!(
+        why.expect_err("it is refused"),
+        "lib::helper: a parameter of type ()"
+    );
+}
