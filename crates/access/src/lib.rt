@@ -1,4 +1,5 @@
 // Access: which expression an action asks of a found record, whether it is granted, and which counters that uses up.
+#![tactic(auto)]
 ghost use Rattle.std.specs.Prelude.{◌≡◌, true, ◌&&◌, [], ◌∷◌, ◌++◌, ◌+◌, ◌≤◌, ◌<◌, length, drop};
 ghost use Rattle.std.proofs.Math.Option.{some};
 ghost use Rattle.rules.specs.declared.Action.TheVariants.{Write};
@@ -15,14 +16,14 @@ ghost use Rattle.access.specs.Groups.{first_group, IsGroup, Decides};
 use rules::{Action, Found, ObjectNumber, Session, Slot};
 
 // Numbers of counters: the first `count`, at most one for each condition.
-#[derive(Drop)]
+#[derive(Clone, Copy)]
 pub struct Counters {
     pub count: usize,
     pub numbers: [u16; expression::CONDITIONS],
 }
 
 // Whether an expression is granted, and the counters that it then uses up.
-#[derive(Drop)]
+#[derive(Clone, Copy)]
 pub struct Grant {
     pub granted: bool,
     pub counters: Counters,

@@ -1,4 +1,5 @@
 // The program of the bench sheet: reads a list of commands, each led by its length in 2 bytes, and prints a line for each.
+#![tactic(auto)]
 ghost use Rattle.std.specs.Prelude.{◌≤◌, ◌≡◌, length};
 ghost use Rattle.rules.specs.Program.{printed};
 

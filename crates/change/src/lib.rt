@@ -1,4 +1,5 @@
 // Changes of a found record where it stands in the store.
+#![tactic(auto)]
 ghost use Rattle.std.specs.Prelude.{◌≡◌, true, [], ◌+◌, ◌≤◌, length};
 ghost use Rattle.rules.specs.Basic.{is_some};
 ghost use Rattle.rules.specs.Expression.{is_state, expression, read_expression};

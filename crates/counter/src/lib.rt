@@ -1,4 +1,6 @@
 // A counter in its 8 bytes, the value and then the threshold: whether it is exhausted, and a count.
+#![tactic(auto)]
+
 ghost use Rattle.std.specs.Prelude.{◌≡◌, ◌-◌, length};
 ghost use Rattle.rules.specs.Object.{counter_size};
 ghost use Rattle.rules.specs.Counter.{counted, value, threshold, exhausted, after_count};

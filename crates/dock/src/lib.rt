@@ -1,4 +1,5 @@
 // The stream at the dock: bytes come in pieces of any size, and whole frames come out.
+#![tactic(auto)]
 ghost use Rattle.std.specs.Prelude.{◌≡◌, ◌++◌, ◌+◌, ◌≤◌, length, take};
 ghost use Rattle.primitives.specs.Bytes.{over};
 ghost use Rattle.frames.specs.Frames.{longest, in_frame, judged};
@@ -9,14 +10,14 @@ ghost use Rattle.dock.specs.Parts.{next_judged, head_judged, reach, parted, coll
 use frames::{Fault, FrameLength, Step};
 
 // A stream: the bytes collected of the present frame, which stand at the front of the lent bytes, or the fault that stopped it.
-#[derive(Drop)]
+#[derive(Clone, Copy)]
 pub enum Stream {
     Collecting(FrameLength),
     Stopped(Fault),
 }
 
 // What a piece brings: the stream after it, the answer to the last byte taken, and how many bytes were taken.
-#[derive(Drop)]
+#[derive(Clone, Copy)]
 pub struct Fed {
     pub stream: Stream,
     pub step: Step,
@@ -25,7 +26,7 @@ pub struct Fed {
 
 // A stream as a host in C keeps it: the bytes collected, and the number that stopped it, 0 where none did. Every value has a meaning.
 #[repr(C)]
-#[derive(Drop)]
+#[derive(Clone, Copy)]
 pub struct HostStream {
     pub collected: u16,
     pub stop: u16,
@@ -33,7 +34,7 @@ pub struct HostStream {
 
 // What a piece brings, for a host in C: kind and body size of the whole frame that ended the call, 0 where none did.
 #[repr(C)]
-#[derive(Drop)]
+#[derive(Clone, Copy)]
 pub struct HostFed {
     pub stream: HostStream,
     pub kind: u16,
@@ -42,7 +43,7 @@ pub struct HostFed {
 }
 
 // The answer to the last of the bytes that are taken at once, and how many these are.
-#[derive(Drop)]
+#[derive(Clone, Copy)]
 struct Part {
     step: Step,
     taken: usize,

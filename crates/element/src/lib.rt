@@ -1,4 +1,5 @@
 // The library's entry: one command.
+#![tactic(auto)]
 ghost use Rattle.std.specs.Prelude.{◌≡◌, true, [], ◌≤◌, length};
 ghost use Rattle.rules.specs.declared.Verdict.TheVariants.{Accepted};
 ghost use Rattle.rules.specs.declared.Row.TheVariants.{OnObject};
@@ -20,7 +21,7 @@ use judge::Target;
 use rules::{Action, Refusal, Row, Session, Verdict};
 
 // The outcome number and the session after a command.
-#[derive(Drop)]
+#[derive(Clone, Copy)]
 pub struct Answer {
     pub outcome: u8,
     pub session: Session,

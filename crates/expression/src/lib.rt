@@ -1,4 +1,6 @@
 // Life cycle states and the form of access expressions in their bytes.
+#![tactic(auto)]
+
 ghost use Rattle.std.specs.Prelude.{◌≡◌, [], ◌∷◌, ◌+◌, ◌≤◌, ◌<◌, length};
 ghost use Rattle.rules.specs.Basic.{among, is_some};
 ghost use Rattle.rules.specs.Expression.{is_state, may_become, expression, condition_allowed};

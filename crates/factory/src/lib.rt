@@ -1,4 +1,5 @@
 // The factory store, made from one table, and the fresh session.
+#![tactic(auto)]
 ghost use Rattle.std.specs.Prelude.{◌≡◌, ◌+◌, ◌<◌, length};
 ghost use Rattle.rules.specs.Layout.{head_size, record_bytes};
 ghost use Rattle.rules.specs.Factory.{entry, made, factory_store};
@@ -11,7 +12,7 @@ use rules::{Length, ObjectNumber, Session};
 pub const STORE: usize = 6024;
 
 // An object's number and the size of its data.
-#[derive(Drop)]
+#[derive(Clone, Copy)]
 struct Entry(ObjectNumber, Length);
 
 const ENTRIES: usize = 14;

@@ -1,4 +1,5 @@
 // What firmware links: C names over lent buffers and a session of four bytes. include/element.h states each promise in plain words.
+#![tactic(auto)]
 ghost use Rattle.std.specs.Prelude.{◌≡◌};
 ghost use Rattle.rules.specs.Basic.{is_some};
 ghost use Rattle.rules.specs.Layout.{unpack};
@@ -16,7 +17,7 @@ use rules::Session;
 
 // The session as a host in C keeps it. opened is 0 for closed; any other byte is open.
 #[repr(C)]
-#[derive(Drop)]
+#[derive(Clone, Copy)]
 pub struct HostSession {
     pub opened: u8,
     pub lcsg: u8,
@@ -25,7 +26,7 @@ pub struct HostSession {
 }
 
 // The outcome number and the host's session after a call.
-#[derive(Drop)]
+#[derive(Clone, Copy)]
 pub struct HostAnswer {
     pub outcome: u8,
     pub session: HostSession,

@@ -1,4 +1,5 @@
 // Frames at the dock: what the bytes of a frame so far amount to, and the writer.
+#![tactic(auto)]
 ghost use Rattle.std.specs.Prelude.{◌≡◌, ◌+◌, ◌-◌, ◌≤◌, length, take, drop};
 ghost use Rattle.rules.specs.Basic.{little_endian};
 ghost use Rattle.primitives.specs.Bytes.{over};
@@ -17,28 +18,28 @@ pub const LONGEST: usize = 1563;
 const LONGEST_BODY: usize = LONGEST - AROUND;
 
 // So many bytes of a frame.
-#[derive(Drop)]
+#[derive(Clone, Copy)]
 pub struct FrameLength(pub u16);
 
 // So many bytes of a frame's body.
-#[derive(Drop)]
+#[derive(Clone, Copy)]
 pub struct BodyLength(pub u16);
 
-#[derive(Drop)]
+#[derive(Clone, Copy)]
 pub enum Kind {
     Command,
     Response,
 }
 
 // The kind of a number.
-#[derive(Drop)]
+#[derive(Clone, Copy)]
 pub enum NamedKind {
     Known(Kind),
     Unknown,
 }
 
 // Why a stream stops.
-#[derive(Drop)]
+#[derive(Clone, Copy)]
 pub enum Fault {
     BadLength,
     UnknownKind,
@@ -46,7 +47,7 @@ pub enum Fault {
 }
 
 // What the bytes of a frame so far amount to: a whole frame; bytes of one that is not complete; a fault.
-#[derive(Drop)]
+#[derive(Clone, Copy)]
 pub enum Step {
     Whole(Kind, BodyLength),
     NotYet(FrameLength),
@@ -54,14 +55,14 @@ pub enum Step {
 }
 
 // Why a frame is not written.
-#[derive(Drop)]
+#[derive(Clone, Copy)]
 pub enum WriteRefusal {
     BodyTooLong,
     RoomTooSmall,
 }
 
 // The frame at the front of the room, or why there is none.
-#[derive(Drop)]
+#[derive(Clone, Copy)]
 pub enum Written {
     Frame(FrameLength),
     Refused(WriteRefusal),

@@ -1,4 +1,5 @@
 // The object that a command names, and the steps 9 to 13.
+#![tactic(auto)]
 ghost use Rattle.std.specs.Prelude.{◌≡◌, true, not, [], ◌≤◌, length};
 ghost use Rattle.std.proofs.Math.Option.{some};
 ghost use Rattle.rules.specs.declared.Kind.TheVariants.{LifeCycle};
@@ -24,7 +25,7 @@ use access::Counters;
 use rules::{Action, Found, Kind, Length, ObjectNumber, Refusal, Session, Verdict};
 
 // What a get or set names: an object of the session (its number, kind and byte), a record's place, or nothing.
-#[derive(Drop)]
+#[derive(Clone, Copy)]
 pub enum Target {
     InSession(ObjectNumber, Kind, u8),
     InStore(usize),
@@ -32,7 +33,7 @@ pub enum Target {
 }
 
 // What the steps 9 to 13 say of a command, and the counters that it uses up where they accept it.
-#[derive(Drop)]
+#[derive(Clone, Copy)]
 pub struct Judgment {
     pub verdict: Verdict,
     pub counters: Counters,

@@ -1,4 +1,5 @@
 // What the program prints: a line for each command of a list, in a lent output.
+#![tactic(auto)]
 ghost use Rattle.std.specs.Prelude.{◌≡◌, [], ◌∷◌, ◌<◌, ◌≤◌, length};
 ghost use Rattle.rules.specs.Program.{digit, upper_hex, line, response_in, answer_line, lines, printed};
 ghost use Rattle.rules.specs.Hex.{ascii};
@@ -20,7 +21,7 @@ const LENGTH: usize = 2;
 const HEADER: usize = 4;
 
 // Where the output goes on after a line, and the session that the command left.
-#[derive(Drop)]
+#[derive(Clone, Copy)]
 struct Line {
     next: usize,
     session: Session,

@@ -1,4 +1,6 @@
 // Numbers in two bytes and in four, copies and zeros in lent slices, and bools joined.
+#![tactic(auto)]
+
 ghost use Rattle.std.specs.Prelude.{◌≡◌, ◌++◌, ◌&&◌, ◌||◌, ◌+◌, ◌<◌, ◌≤◌, min, max, length, drop};
 ghost use Rattle.rules.specs.Basic.{little_endian_at, big_endian_at, big_endian_4, big_endian_4_at, little_endian_4, little_endian_4_at, zeros};
 ghost use Rattle.primitives.specs.Bytes.{over, all_zero};

@@ -1,4 +1,6 @@
 // A fare queue in an object's data: `content` is the data up to used, `part` the whole of it, maximum bytes.
+#![tactic(auto)]
+
 ghost use Rattle.std.specs.Prelude.{◌≡◌, true, ◌++◌, ℕ, ◌+◌, ◌-◌, ◌≤◌, ◌<◌, length, take, drop};
 ghost use Rattle.rules.specs.Basic.{is_some, zeros};
 ghost use Rattle.rules.specs.Queue.{fare, queue_head, fare_head, fare_bytes, queue_bytes, queue, queue_in, appended, present_in, acknowledged};
@@ -28,7 +30,7 @@ const SHORTEST: usize = BODY + 1;
 const LONGEST: usize = BODY + 200;
 
 // Where in a queue's bytes the fare of a number ends.
-#[derive(Drop)]
+#[derive(Clone, Copy)]
 pub enum FareEnd {
     Behind(usize),
     Absent,

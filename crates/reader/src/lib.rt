@@ -1,9 +1,10 @@
 // The reader of metadata content: the lent content and a place in it, and what stands there.
+#![tactic(auto)]
 ghost use Rattle.std.specs.Prelude.{◌≡◌};
 ghost use Rattle.reader.specs.Content.{field_at, place_after, next_field, advanced};
 
 // What stands at a position of the content: a field whose value is content[start..end], the end, or what is no field.
-#[derive(Drop)]
+#[derive(Clone, Copy)]
 pub enum Next {
     Field { tag: u8, start: usize, end: usize },
     End,
@@ -11,14 +12,14 @@ pub enum Next {
 }
 
 // Steps through fields: the lent content, and the place in it.
-#[derive(Drop)]
+#[derive(Clone, Copy)]
 pub struct MetadataReader<'a> {
     pub content: &'a [u8],
     pub at: usize,
 }
 
 // What a reader stood at, and its place after that.
-#[derive(Drop)]
+#[derive(Clone, Copy)]
 pub struct Step {
     pub next: Next,
     pub at: usize,

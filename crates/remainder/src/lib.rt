@@ -1,4 +1,6 @@
 // The remainder that ends a frame: a step for each byte, by a table of 256 remainders.
+#![tactic(auto)]
+
 ghost use Rattle.std.specs.Prelude.{◌≡◌};
 ghost use Rattle.remainder.specs.Remainder.{table, with_byte, remainder};
 

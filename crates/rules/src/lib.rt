@@ -1,7 +1,8 @@
 // The types that every crate shares, and the tags of metadata. specs/ gives each case the number and the values of document 01.
+#![tactic(auto)]
 
 // What the element keeps between commands: application open or closed, LcsG, LcsA, last error.
-#[derive(Drop)]
+#[derive(Clone, Copy)]
 pub struct Session {
     pub opened: bool,
     pub lcsg: u8,
@@ -10,19 +11,19 @@ pub struct Session {
 }
 
 // The number of an object.
-#[derive(Drop)]
+#[derive(Clone, Copy)]
 pub struct ObjectNumber(pub u16);
 
 // How far into an object's data.
-#[derive(Drop)]
+#[derive(Clone, Copy)]
 pub struct Offset(pub usize);
 
 // A count of bytes.
-#[derive(Drop)]
+#[derive(Clone, Copy)]
 pub struct Length(pub usize);
 
 // Why a command is refused.
-#[derive(Drop)]
+#[derive(Clone, Copy)]
 pub enum Refusal {
     InvalidObject,
     InvalidParam,
@@ -37,21 +38,21 @@ pub enum Refusal {
 }
 
 // What the steps 2 to 13 say of a command.
-#[derive(Drop)]
+#[derive(Clone, Copy)]
 pub enum Verdict {
     Refused(Refusal),
     Accepted,
 }
 
 // Which way a counter counts to its threshold.
-#[derive(Drop)]
+#[derive(Clone, Copy)]
 pub enum Direction {
     Up,
     Down,
 }
 
 // The kind of an object: that of a record, or one of the session's.
-#[derive(Drop)]
+#[derive(Clone, Copy)]
 pub enum Kind {
     Data,
     Counter(Direction),
@@ -61,7 +62,7 @@ pub enum Kind {
 }
 
 // What a command does with the object that it names.
-#[derive(Drop)]
+#[derive(Clone, Copy)]
 pub enum Action {
     GetData,
     GetMetadata,
@@ -74,7 +75,7 @@ pub enum Action {
 }
 
 // The row of the command table that Cmd and Param name.
-#[derive(Drop)]
+#[derive(Clone, Copy)]
 pub enum Row {
     OnObject(Action),
     OpenApplication,
@@ -83,21 +84,21 @@ pub enum Row {
 }
 
 // How many bytes InData may have.
-#[derive(Drop)]
+#[derive(Clone, Copy)]
 pub struct Sizes {
     pub least: usize,
     pub most: usize,
 }
 
 // Where the record of an object begins in the store.
-#[derive(Drop)]
+#[derive(Clone, Copy)]
 pub enum Found {
     At(usize),
     Nothing,
 }
 
 // The three slots of a record, for change, read and execute.
-#[derive(Drop)]
+#[derive(Clone, Copy)]
 pub enum Slot {
     Change,
     Read,

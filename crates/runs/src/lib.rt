@@ -1,4 +1,5 @@
 // Runs of a list of commands over `execute`, and three of them side by side.
+#![tactic(auto)]
 ghost use Rattle.std.specs.Prelude.{◌≡◌, ◌+◌, ◌≤◌, min, length, get_or};
 ghost use Rattle.element.specs.Executed.{executed};
 ghost use Rattle.runs.specs.Lists.{told, in_place};
@@ -69,7 +70,7 @@ pub fn run(
 }
 
 // The sessions that three runs end with.
-#[derive(Drop)]
+#[derive(Clone, Copy)]
 pub struct Sessions {
     pub mix: Session,
     pub here: Session,

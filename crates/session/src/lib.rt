@@ -1,4 +1,6 @@
 // The session with one part changed.
+#![tactic(auto)]
+
 ghost use Rattle.std.specs.Prelude.{◌≡◌};
 ghost use Rattle.rules.specs.Session.{with_opened, with_lcsg, with_lcsa, with_error, with_state};
 ghost use Rattle.rules.specs.Step.{raised};

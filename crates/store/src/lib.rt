@@ -1,4 +1,5 @@
 // A whole store: its check, and the search for an object's record.
+#![tactic(auto)]
 ghost use Rattle.std.specs.Prelude.{◌≡◌, true};
 ghost use Rattle.rules.specs.Basic.{is_some};
 ghost use Rattle.rules.specs.Layout.{unpack, found};
@@ -70,7 +71,7 @@ pub fn find_record(store: &[u8], number: ObjectNumber) -> Found
 }
 
 // What two searches find.
-#[derive(Drop)]
+#[derive(Clone, Copy)]
 pub struct Finds {
     pub here: Found,
     pub there: Found,

@@ -1,1 +1,2 @@
 // No code: this crate is what proofs by hand share, in proofs/.
+#![tactic(auto)]

@@ -1,0 +1,7 @@
+-- Exhausted where there is no gap.
+use borrow.Author.Rules.{rules}
+use Rattle.counter.proofs.Bytes.{exhausted_by}
+use Rattle.counter.proofs.exhausted.Goals as goal
+
+pub returns : goal.returns
+returns c = search exhausted_by

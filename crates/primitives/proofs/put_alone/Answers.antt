@@ -1,0 +1,7 @@
+-- The put's own contract, over the zeros.
+use borrow.Author.Rules.{rules}
+use Rattle.primitives.proofs.Over.{put_over}
+use Rattle.primitives.proofs.put_alone.Goals as goal
+
+pub returns : goal.returns
+returns c = search put_over

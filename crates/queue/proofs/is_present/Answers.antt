@@ -1,0 +1,14 @@
+-- Present from the first number up to just below the next.
+use borrow.Author.Rules.{rules}
+use Rattle.queue.proofs.Checking.{below_first, from_first}
+use Rattle.queue.proofs.Search.{head_long}
+use Rattle.queue.proofs.is_present.Goals as goal
+
+pub first_number-requires : goal.first_number-requires
+first_number-requires c = search head_long
+
+pub returns-then-number-first_number : goal.returns-then-number-first_number
+returns-then-number-first_number c = search below_first
+
+pub returns : goal.returns
+returns c = search from_first
