@@ -1,5 +1,6 @@
 // Changes of a found record where it stands in the store.
 #![tactic(auto)]
+
 ghost use Rattle.std.specs.Prelude.{◌≡◌, true, [], ◌+◌, ◌≤◌, length};
 ghost use Rattle.rules.specs.Basic.{is_some};
 ghost use Rattle.rules.specs.Expression.{is_state, expression, read_expression};

@@ -1,5 +1,6 @@
 // The stream at the dock: bytes come in pieces of any size, and whole frames come out.
 #![tactic(auto)]
+
 ghost use Rattle.std.specs.Prelude.{◌≡◌, ◌++◌, ◌+◌, ◌≤◌, length, take};
 ghost use Rattle.primitives.specs.Bytes.{over};
 ghost use Rattle.frames.specs.Frames.{longest, in_frame, judged};

@@ -1,5 +1,6 @@
 // The factory store, made from one table, and the fresh session.
 #![tactic(auto)]
+
 ghost use Rattle.std.specs.Prelude.{◌≡◌, ◌+◌, ◌<◌, length};
 ghost use Rattle.rules.specs.Layout.{head_size, record_bytes};
 ghost use Rattle.rules.specs.Factory.{entry, made, factory_store};

@@ -52,14 +52,13 @@ check_by bs x y e f = rw (e, f)
 
 -- `judge` ------------------------------------------------------------------------------------------------------------------
 
-not_whole : (s : Step) (bs : List ℕ) → OneOf (1 ∷ 2 ∷ []) (tag_of the_type s) → s ≡ checked s bs
+not_whole : (s : Step) (bs : List ℕ) → ((k : Kind) (n : BodyLength) → s ≡ Whole k n → ⊥) → s ≡ checked s bs
 unfolding checked
-not_whole (Whole k n) bs (inl e) = absurd (omega arith)
-not_whole (Whole k n) bs (inr e) = absurd (omega arith)
-not_whole (NotYet n) bs e = refl
-not_whole (Stopped f) bs e = refl
+not_whole (Whole k n) bs h = absurd (h k n refl)
+not_whole (NotYet n) bs h = refl
+not_whole (Stopped f) bs h = refl
 
-pub judged_early : (s : Step) (bs : List ℕ) → s ≡ judged_by_head bs → OneOf (1 ∷ 2 ∷ []) (tag_of the_type s) → s ≡ judged bs
+pub judged_early : (s : Step) (bs : List ℕ) → s ≡ judged_by_head bs → ((k : Kind) (n : BodyLength) → s ≡ Whole k n → ⊥) → s ≡ judged bs
 unfolding judged
 judged_early s bs e h = not_whole s bs h ∙ ap (λ t. checked t bs) e
 

@@ -1,5 +1,6 @@
 // Frames at the dock: what the bytes of a frame so far amount to, and the writer.
 #![tactic(auto)]
+
 ghost use Rattle.std.specs.Prelude.{◌≡◌, ◌+◌, ◌-◌, ◌≤◌, length, take, drop};
 ghost use Rattle.rules.specs.Basic.{little_endian};
 ghost use Rattle.primitives.specs.Bytes.{over};

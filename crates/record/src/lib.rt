@@ -1,5 +1,6 @@
 // One record: where its parts lie, its check, its parts read and written where it stands in the store.
 #![tactic(auto)]
+
 ghost use Rattle.std.specs.Prelude.{◌≡◌, true, ◌&&◌, ◌+◌, ◌-◌, ◌≤◌, ◌<◌, eqb, length, get_or, take, drop};
 ghost use Rattle.rules.specs.declared.Kind.TheVariants.{Data, Counter, Queue};
 ghost use Rattle.rules.specs.declared.Direction.TheVariants.{Up};

@@ -1,5 +1,6 @@
 // A whole store: its check, and the search for an object's record.
 #![tactic(auto)]
+
 ghost use Rattle.std.specs.Prelude.{◌≡◌, true};
 ghost use Rattle.rules.specs.Basic.{is_some};
 ghost use Rattle.rules.specs.Layout.{unpack, found};

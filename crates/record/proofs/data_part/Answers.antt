@@ -1,0 +1,7 @@
+-- The part is of the data in use.
+use borrow.Author.Rules.{rules}
+use Rattle.record.proofs.Parts.{data_lent}
+use Rattle.record.proofs.data_part.Goals as goal
+
+pub returns : goal.returns
+returns c = search data_lent

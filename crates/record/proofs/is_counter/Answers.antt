@@ -1,0 +1,7 @@
+-- The kind's number is one of the two.
+use borrow.Author.Rules.{rules}
+use Rattle.record.proofs.Records.{counter_by}
+use Rattle.record.proofs.is_counter.Goals as goal
+
+pub returns : goal.returns
+returns c = search counter_by

@@ -1,0 +1,27 @@
+-- What is left to search is the way from `at` on.
+use borrow.Author.Rules.{rules}
+use Prim.Native.Nat.{◌-◌}
+use lib.ListN.{length}
+use Rattle.store.proofs.Search.{Ahead, start, here_stored, found_here, passed, go_on, search_end}
+use Rattle.store.proofs.find_record.Goals as goal
+
+pub loop-at-init : goal.loop-at-init
+loop-at-init c = search start
+
+pub data_end-next-requires : goal.data_end-next-requires
+data_end-next-requires c = search here_stored
+
+pub number_at-here-requires : goal.number_at-here-requires
+number_at-here-requires c = search here_stored
+
+pub returns-then-number-here-2 : goal.returns-then-number-here-2
+returns-then-number-here-2 c = search passed
+
+pub returns-then-number-here : goal.returns-then-number-here
+returns-then-number-here c = search found_here
+
+pub loop-at-preserved : goal.loop-at-preserved
+loop-at-preserved c = search go_on
+
+pub returns : goal.returns
+returns c = search search_end
