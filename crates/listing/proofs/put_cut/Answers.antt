@@ -1,0 +1,7 @@
+-- `put_cut`: the text in ASCII.
+use Rattle.listing.proofs.Lines.{cut_put}
+use borrow.Author.Rules.{rules}
+use Rattle.listing.proofs.put_cut.Goals as goal
+
+pub returns : goal.returns
+returns c = search cut_put

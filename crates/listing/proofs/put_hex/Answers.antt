@@ -1,0 +1,19 @@
+-- `put_hex`: what is left is the digits of the bytes not yet passed.
+use Prim.Native.Nat.{◌≤◌, ◌-◌}
+use mathlib.Core.Path.{◌≡◌, refl}
+use native.Mathlib.Omega.{arith}
+use lib.ListN.{length, drop}
+use Rattle.rules.specs.Program.{upper_hex}
+use Rattle.listing.proofs.Texts.{Onward, onward_start}
+use Rattle.listing.proofs.Digits.{hex_on, hex_end}
+use borrow.Author.Rules.{rules}
+use Rattle.listing.proofs.put_hex.Goals as goal
+
+pub loop-i-init : goal.loop-i-init
+loop-i-init c = (omega arith, omega arith, refl, search onward_start)
+
+pub loop-i-preserved : goal.loop-i-preserved
+loop-i-preserved c = (omega arith, omega arith, omega arith, search hex_on)
+
+pub returns : goal.returns
+returns c = search hex_end
