@@ -1,5 +1,6 @@
 // What an accepted action does, at an object of the session and at a found record.
 #![tactic(auto)]
+
 ghost use Rattle.std.specs.Prelude.{◌≡◌, ◌&&◌, [], ◌∷◌, ◌+◌, ◌≤◌, eqb, leb, length, get_or};
 ghost use Rattle.rules.specs.Basic.{if◌then◌else◌};
 ghost use Rattle.rules.specs.Command.{offset};

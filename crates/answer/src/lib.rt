@@ -1,5 +1,6 @@
 // The answer to a get of metadata: how long it is, and how it is written into the room.
 #![tactic(auto)]
+
 ghost use Rattle.std.specs.Prelude.{◌≡◌, [], ◌∷◌, ◌+◌, ◌≤◌, ◌<◌, length};
 ghost use Rattle.rules.specs.Metadata.{fields_bytes, metadata};
 ghost use Rattle.rules.specs.Expression.{expression_bytes};

@@ -1,5 +1,6 @@
 // A command's parts, the steps of the refusals that look at no object, and the flush.
 #![tactic(auto)]
+
 ghost use Rattle.std.specs.Prelude.{◌≡◌, ◌≤◌, length};
 ghost use Rattle.rules.specs.Basic.{same};
 ghost use Rattle.rules.specs.Command.{asks_flush, cmd, command_table, row, known_cmd, size_right};

@@ -142,10 +142,10 @@ going_start p m b s h =
 
 module _ (p k : ℕ) (m b b1 : List ℕ) (g : Going p k m b b1) where
   module _ (r : Next) (told : r ≡ field_at k m) where
-    pub going_end : OneOf (1 ∷ 2 ∷ []) (tag_of enum.the_type r) → b1 ≡ with_record p (with_fields (sent_fields m) (object_at p b)) b
+    pub going_end : ((t a e : ℕ) → r ≡ next.Field t a e → ⊥) → b1 ≡ with_record p (with_fields (sent_fields m) (object_at p b)) b
     unfolding with_fields value_of sent_state sent_expression among
     going_end o =
-        let n = none_left k m g.rest.fs g.rest.bytes (λ t a e q. false≢true (among_yes (1 ∷ 2 ∷ []) 0 (rw (told ∙ q) at o))) in
+        let n = none_left k m g.rest.fs g.rest.bytes (λ t a e q. o t a e (told ∙ q)) in
         g.left.bytes ∙ ap (λ x. with_record p x b) (ap (λ fs. with_fields fs g.object) (sym n) ∙ g.comes_to)
 
     module _ (t a e : ℕ) (h : r ≡ next.Field t a e) where

@@ -1,5 +1,6 @@
 // Metadata content that is sent in: judged, and stored.
 #![tactic(auto)]
+
 ghost use Rattle.std.specs.Prelude.{◌≡◌, true, [], ◌∷◌, ◌≤◌, length};
 ghost use Rattle.rules.specs.Basic.{among};
 ghost use Rattle.rules.specs.Metadata.{field, field_allowed, metadata_allowed, sent_fields};

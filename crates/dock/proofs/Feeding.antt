@@ -15,6 +15,8 @@ use lib.Seq.{set_split, length-take-le, drop-drop}
 use Rattle.primitives.specs.Bytes.{over}
 use Rattle.primitives.proofs.Over.{over_length, over_over}
 use Rattle.frames.specs.declared.FrameLength.{FrameLength}
+use Rattle.frames.specs.declared.BodyLength.{BodyLength}
+use Rattle.frames.specs.declared.Kind.{Kind}
 use Rattle.frames.specs.declared.Fault.{Fault}
 use Rattle.frames.specs.declared.Fault.TheVariants.{BadLength}
 use Rattle.frames.specs.declared.Step.{Step}
@@ -205,10 +207,9 @@ part_kept (Collecting n) buffer bs size = go (ltb n.0 longest) refl
 
 -- the loop ---------------------------------------------------------------------------------------------------------------------
 
-goes_on : (s : Step) (a b : Feeding) → OneOf (1 ∷ 2 ∷ []) (tag_of the_type s) → whole_or s a b ≡ b
+goes_on : (s : Step) (a b : Feeding) → ((k : Kind) (n : BodyLength) → s ≡ Whole k n → ⊥) → whole_or s a b ≡ b
 unfolding whole_or
-goes_on (Whole k n) a b (inl e) = absurd (omega arith)
-goes_on (Whole k n) a b (inr e) = absurd (omega arith)
+goes_on (Whole k n) a b e = absurd (e k n refl)
 goes_on (NotYet n) a b e = refl
 goes_on (Stopped f) a b e = refl
 
@@ -256,7 +257,7 @@ module _ (i : ℕ) (s : Stream) (buffer piece : List ℕ) (r : Part) (kept : Lis
             ≡ on_from i r.step r.taken kept (drop r.taken (drop i piece))
         on_is = unfold on_from in rw drop-drop
 
-    pub feed_on : OneOf (1 ∷ 2 ∷ []) (tag_of the_type r.step) → feeding_from (i + r.taken) later kept (drop (i + r.taken) piece) ≡ w
+    pub feed_on : ((k : Kind) (n : BodyLength) → r.step ≡ Whole k n → ⊥) → feeding_from (i + r.taken) later kept (drop (i + r.taken) piece) ≡ w
     feed_on k = sym (goes_on r.step _ _ k) ∙ turn
 
     pub feed_whole : OneOf (0 ∷ []) (tag_of the_type r.step) → fed (record { stream = later; step = r.step; taken = i + r.taken }) kept ≡ w

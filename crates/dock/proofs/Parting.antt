@@ -34,13 +34,12 @@ module _ (bs : List ℕ) (s : Step) (e : s ≡ judged_by_head bs) where
   unfolding next_judged
   judged_by h = h ∙ ap (λ t. judged_after t bs) e
 
-  pub next_else : OneOf (0 ∷ 2 ∷ []) (tag_of the_type s) → length bs + 1 ≡ next_judged bs
+  pub next_else : ((n : FrameLength) → s ≡ NotYet n → ⊥) → length bs + 1 ≡ next_judged bs
   next_else k = judged_by (go s k)
     where
-      go : (t : Step) → OneOf (0 ∷ 2 ∷ []) (tag_of the_type t) → length bs + 1 ≡ judged_after t bs
+      go : (t : Step) → ((n : FrameLength) → t ≡ NotYet n → ⊥) → length bs + 1 ≡ judged_after t bs
       go (Whole k n) o = unfold judged_after in refl
-      go (NotYet n) (inl o) = absurd (omega arith)
-      go (NotYet n) (inr o) = absurd (omega arith)
+      go (NotYet n) o = absurd (o n refl)
       go (Stopped f) o = unfold judged_after in refl
 
   module _ (k : OneOf (1 ∷ []) (tag_of the_type s)) where

@@ -36,11 +36,10 @@ unfolding host_of
 stopped_told s f n e h = rw (e, h)
 
 -- `host_fed`
-pub none_told : (h : HostStream) (s : Step) (taken : ℕ) → OneOf (1 ∷ 2 ∷ []) (tag_of the_type s)
+pub none_told : (h : HostStream) (s : Step) (taken : ℕ) → ((k : Kind) (n : BodyLength) → s ≡ Whole k n → ⊥)
     → record { stream = h; kind = 0; size = 0; taken = taken } ≡ host_told h s taken
 unfolding host_told
-none_told h (Whole k n) taken (inl e) = absurd (omega arith)
-none_told h (Whole k n) taken (inr e) = absurd (omega arith)
+none_told h (Whole k n) taken e = absurd (e k n refl)
 none_told h (NotYet n) taken e = refl
 none_told h (Stopped f) taken e = refl
 

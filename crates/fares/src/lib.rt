@@ -1,5 +1,6 @@
 // The queue of a found record: the verdicts on an append and on an acknowledgement, and both carried out where it stands in the store.
 #![tactic(auto)]
+
 ghost use Rattle.std.specs.Prelude.{◌≡◌, List, ℕ};
 ghost use Rattle.rules.specs.declared.Action.TheVariants.{Append, Acknowledge};
 ghost use Rattle.rules.specs.Command.{sent_body, sent_number};

@@ -1,4 +1,3 @@
 pub mod Bytes
 pub mod Sizes
 pub mod Calls
-pub mod Entries

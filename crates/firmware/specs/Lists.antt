@@ -1,5 +1,7 @@
 -- What a host in C sees of a list of commands.
 use Rattle.std.specs.Prelude.{ℕ, zero, suc, ◌-◌, Bool, true, ◌&&◌, List, ◌≡◌, ltb, leb, length, get_or, drop}
+use Rattle.std.specs.Borrow.{MutBor}
+use denote.Triple.Both.{Both}
 use Rattle.rules.specs.Basic.{if◌then◌else◌}
 use Rattle.runs.specs.Lists.{Lent, by_rules, lent}
 use Rattle.runs.specs.Demand.{Slice}
@@ -37,8 +39,13 @@ list_in_bytes was l =
 abbrev pub HostRuns : (l : Lent) (was : HostSession) → ListLeft → Type 0
 HostRuns l was r = r ≡ list_in_bytes was l
 
+-- a slice that is lent to be written: as it was, and as it came back
+abbrev pub MutSlice : Type 0
+MutSlice = Both (MutBor (List ℕ)) (MutBor (List ℕ))
+
 -- the same, by the parameters of the call and what it answers
-abbrev pub HostRun : (commands sizes store : Slice) → HostSession → (rooms spaces outcomes : Slice) → ℕ → HostSession → Type 0
+abbrev pub HostRun : (commands sizes : Slice) (store : MutSlice) → HostSession → (rooms : MutSlice) (spaces : Slice) (outcomes : MutSlice)
+    → ℕ → HostSession → Type 0
 HostRun commands sizes store was rooms spaces outcomes outcome session =
     HostRuns
     (lent commands.entry.now sizes.entry.now rooms.entry.now spaces.entry.now outcomes.entry.now store.entry.now (session_of was))

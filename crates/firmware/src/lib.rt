@@ -1,5 +1,6 @@
 // What firmware links: C names over lent buffers and a session of four bytes. include/element.h states each promise in plain words.
 #![tactic(auto)]
+
 ghost use Rattle.std.specs.Prelude.{◌≡◌};
 ghost use Rattle.rules.specs.Basic.{is_some};
 ghost use Rattle.rules.specs.Layout.{unpack};

@@ -1,5 +1,6 @@
 // The library's entry on a session that the host keeps.
 #![tactic(auto)]
+
 ghost use Rattle.element.specs.Executed.{Executes};
 
 use rules::Session;

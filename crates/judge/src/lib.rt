@@ -1,5 +1,6 @@
 // The object that a command names, and the steps 9 to 13.
 #![tactic(auto)]
+
 ghost use Rattle.std.specs.Prelude.{◌≡◌, true, not, [], ◌≤◌, length};
 ghost use Rattle.std.proofs.Math.Option.{some};
 ghost use Rattle.rules.specs.declared.Kind.TheVariants.{LifeCycle};

@@ -1,5 +1,6 @@
 // The reader of metadata content: the lent content and a place in it, and what stands there.
 #![tactic(auto)]
+
 ghost use Rattle.std.specs.Prelude.{◌≡◌};
 ghost use Rattle.reader.specs.Content.{field_at, place_after, next_field, advanced};
 

@@ -1,5 +1,6 @@
 // The counters that a granted command uses up: each goes up by one, once.
 #![tactic(auto)]
+
 ghost use Rattle.std.specs.Prelude.{◌≡◌, true, [], ◌∷◌, ◌≤◌, ◌<◌, get_or, take};
 ghost use Rattle.rules.specs.Basic.{among, is_some, or_else};
 ghost use Rattle.rules.specs.Expression.{slot_size, most_conditions};

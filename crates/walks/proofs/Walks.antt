@@ -4,13 +4,13 @@ use Prim.Native.Nat.{ℕ}
 use mathlib.Core.List.{List, [], ◌∷◌}
 use lib.ListN.{get_or}
 use seplogic.Ra.Ura.{Ura}
-use seplogic.Ra.TreeShare.{full_share}
+use base.Fraction.{full_share}
 use mir.Syntax.{Fn, Opd, copy, place}
 use mir.Val.{Val}
 use base.Logic.{SProp, ent, sep, ex, via, fst∗}
 use base.Fml.{Fml, fat}
 use prog.Model.{Model}
-use prog.Routine.{Name, Env}
+use prog.Routine.{Callee, Env}
 use prog.Wp.{Env as Locals, WpFn, Closed, no_local}
 use types.Logic.{Logic, sem}
 use types.Kit.{Item, nth, ‵, ◌⊛◌, mean, ⋆, ◌$◌, ◌∵◌, !, qed, join, show, frame, updating, done, now as at_once}
@@ -40,7 +40,7 @@ module _ {M : Type 1} {𝓤 : Ura M} (𝓛 : Logic 𝓤) (𝓜 : Model 𝓤 𝓛
     low y = valss (types_at S.params y.0.0) (sp y.0.0) y.0.3
 
     -- a function meets its contract, from a walk with these and their relations in hand
-    pub proved : (k : Name) (f : Fn) → Closed 𝓤 H (tables 𝓤 H 𝓜 𝓡 γ).C (tables 𝓤 H 𝓜 𝓡 γ).Λ k f →
+    pub proved : (k : Callee) (f : Fn) → Closed 𝓤 H (tables 𝓤 H 𝓜 𝓡 γ).C (tables 𝓤 H 𝓜 𝓡 γ).Λ k f →
         ((κs : Lfts S.lifetimes) → Tellss (types_at S.params κs) (Ises (types_at S.params κs)) (sp κs)) →
         ((y : Whole.Ghost) → Are (types_at S.params y.0.0) (Ises (types_at S.params y.0.0)) y.0.3 (low y) →
         ent 𝓤 (on_entry 𝓛 S y.0.0 y.0.1 y.0.3 (low y))
@@ -58,15 +58,15 @@ Said {𝓤 = 𝓤} 𝓛 L last φ = ex 𝓤 (λ (ls : L). sep 𝓤 (sem 𝓛 (la
 -- what a call leaves: its tokens, an answer, and the last values of what it was passed; of the two its clause holds
 abbrev pub Left : {M : Type 1} {𝓤 : Ura M} (𝓛 : Logic 𝓤) → Item 𝓤 → (R : RattleType) (L : Type 0) → (L → Fml) → (R.Denot → L → Type 0) → Val →
     SProp 𝓤
-Left {𝓤 = 𝓤} 𝓛 T R L last φ w = 𝓛.H.⇛ (ex 𝓤 (λ (r : R.Denot). sep 𝓤 (mean 𝓛 (T ⊛ ‵ (R.own r (w ∷ [])))) (Said 𝓛 L last (φ r))))
+Left {𝓤 = 𝓤} 𝓛 T R L last φ w = 𝓛.H.⇛ (ex 𝓤 (λ (r : R.Denot). sep 𝓤 (mean 𝓛 (T ⊛ ‵ (R.own_val r (w ∷ [])))) (Said 𝓛 L last (φ r))))
 
 module _ {M : Type 1} {𝓤 : Ura M} (𝓛 : Logic 𝓤) where
   -- how a walk ends
   pub leaves : (T : Item 𝓤) (R : RattleType) (L : Type 0) (last : L → Fml) (φ : R.Denot → L → Type 0) (w : Val) (r : R.Denot) (ls : L) → φ r ls →
-      ent 𝓤 (⋆ 𝓛 (T ∷ ‵ (R.own r (w ∷ [])) ∷ ‵ (last ls) ∷ [])) (Left 𝓛 T R L last φ w)
+      ent 𝓤 (⋆ 𝓛 (T ∷ ‵ (R.own_val r (w ∷ [])) ∷ ‵ (last ls) ∷ [])) (Left 𝓛 T R L last φ w)
   leaves T R L last φ w r ls e =
-      qed 𝓛 (T ∷ ‵ (R.own r (w ∷ [])) ∷ ‵ (last ls) ∷ []) ∵ updating ! $ at_once ! $
-      show ! (λ (r : R.Denot). sep 𝓤 (mean 𝓛 (T ⊛ ‵ (R.own r (w ∷ [])))) (Said 𝓛 L last (φ r))) r $ join ! $ frame ! $
+      qed 𝓛 (T ∷ ‵ (R.own_val r (w ∷ [])) ∷ ‵ (last ls) ∷ []) ∵ updating ! $ at_once ! $
+      show ! (λ (r : R.Denot). sep 𝓤 (mean 𝓛 (T ⊛ ‵ (R.own_val r (w ∷ [])))) (Said 𝓛 L last (φ r))) r $ join ! $ frame ! $
       show ! (λ (ls : L). sep 𝓤 (sem 𝓛 (last ls)) (fact 𝓤 (φ r ls))) ls $ says ! e $ done !
 
 module _ {M : Type 1} {𝓤 : Ura M} {𝓛 : Logic 𝓤} {K : Type 0} {Γ : List (Item 𝓤)} where

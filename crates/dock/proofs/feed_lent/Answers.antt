@@ -9,13 +9,13 @@ use Rattle.dock.specs.Held.{feeding_from, feeding}
 use Rattle.dock.proofs.Feeding.{taken_within, kept_size, left_less, feed_on, feed_whole, feed_end}
 use Rattle.dock.proofs.feed_lent.Goals as goal
 
-loop-holds : tie.Need-loop-init invariant_loop decreases_loop
+pub loop-taken-init : goal.loop-taken-init
 unfolding feeding
-loop-holds c = (omega arith, search rules, refl)
+loop-taken-init c = (omega arith, search rules, refl)
 
-add_taken : tie.Need-overflow-add-taken invariant_loop decreases_loop
-add_taken c =
-    let inside : c.before.before.before.before.before.before.before.before.loop.taken + c.before.before.before.before.take_part.result.taken ≤ length c.before.before.before.before.before.before.before.before.before.before.before.args.piece.now = search taken_within in
+pub overflow_add-taken : goal.overflow_add-taken
+overflow_add-taken c =
+    let inside : c.loop-taken.taken + c.take_part-part.result.taken ≤ length c.args.piece.now = search taken_within in
     omega (arith, inside)
 
 pub loop-taken-smaller : goal.loop-taken-smaller

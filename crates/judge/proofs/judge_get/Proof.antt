@@ -1,8 +1,0 @@
--- `judge::judge_get` meets its contract.
-use Rattle.judge.proofs.Judging.{get_judged}
-use borrow.Author.Rules.{rules}
-use Rattle.judge.proofs.judge_get.Statement.{statement}
-use Rattle.judge.proofs.judge_get.Tie as tie
-
-pub judge_get_spec : {M : Type 1} → statement M
-judge_get_spec = tie.close (tie.spec (λ c κs. search rules) (λ c κs. search rules) (λ c κs. search rules) (λ c o e. search get_judged))
