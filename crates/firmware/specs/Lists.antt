@@ -1,10 +1,8 @@
 -- What a host in C sees of a list of commands.
 use Rattle.std.specs.Prelude.{ℕ, zero, suc, ◌-◌, Bool, true, ◌&&◌, List, ◌≡◌, ltb, leb, length, get_or, drop}
-use Rattle.std.specs.Borrow.{MutBor}
-use denote.Triple.Both.{Both}
 use Rattle.rules.specs.Basic.{if◌then◌else◌}
 use Rattle.runs.specs.Lists.{Lent, by_rules, lent}
-use Rattle.runs.specs.Demand.{Slice}
+use Rattle.runs.specs.Demand.{Slice, MutSlice}
 use Rattle.firmware.specs.declared.HostSession.{HostSession}
 use Rattle.firmware.specs.Host.{session_of, bytes_of}
 
@@ -38,10 +36,6 @@ list_in_bytes was l =
 -- what a call of `element_run` leaves, by the rules; l has the session that the bytes tell
 abbrev pub HostRuns : (l : Lent) (was : HostSession) → ListLeft → Type 0
 HostRuns l was r = r ≡ list_in_bytes was l
-
--- a slice that is lent to be written: as it was, and as it came back
-abbrev pub MutSlice : Type 0
-MutSlice = Both (MutBor (List ℕ)) (MutBor (List ℕ))
 
 -- the same, by the parameters of the call and what it answers
 abbrev pub HostRun : (commands sizes : Slice) (store : MutSlice) → HostSession → (rooms : MutSlice) (spaces : Slice) (outcomes : MutSlice)

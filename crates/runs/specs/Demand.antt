@@ -1,6 +1,6 @@
 -- Demand 3 of runs of the library.
 use Rattle.std.specs.Prelude.{ℕ, zero, suc, ◌≡◌, List, [], ◌∷◌, ◌++◌, length, get_or, take, drop}
-use Rattle.std.specs.Borrow.{Bor}
+use Rattle.std.specs.Borrow.{Bor, MutBor}
 use denote.Triple.Both.{Both}
 use Rattle.mixing.specs.Runs.{Mix, of_first, of_second}
 use Rattle.rules.specs.declared.Session.{Session}
@@ -42,8 +42,13 @@ library_run l r = record { lent = l; left = r }
 abbrev pub Slice : Type 0
 Slice = Both (Bor (List ℕ)) (Bor (List ℕ))
 
+-- a slice that is lent to be written: as it was, and as it came back
+abbrev pub MutSlice : Type 0
+MutSlice = Both (MutBor (List ℕ)) (MutBor (List ℕ))
+
 -- a call by its parameters and its result
-abbrev pub called : (commands sizes store : Slice) → Session → (rooms spaces outcomes : Slice) → Session → LibraryRun
+abbrev pub called : (commands sizes : Slice) (store : MutSlice) → Session → (rooms : MutSlice) (spaces : Slice) (outcomes : MutSlice) → Session
+    → LibraryRun
 called commands sizes store session rooms spaces outcomes r =
     library_run
     (lent commands.entry.now sizes.entry.now rooms.entry.now spaces.entry.now outcomes.entry.now store.entry.now session)

@@ -1,5 +1,6 @@
 // Runs of a list of commands over `execute`, and three of them side by side.
 #![tactic(auto)]
+
 ghost use Rattle.std.specs.Prelude.{◌≡◌, ◌+◌, ◌≤◌, min, length, get_or};
 ghost use Rattle.element.specs.Executed.{executed};
 ghost use Rattle.runs.specs.Lists.{told, in_place};

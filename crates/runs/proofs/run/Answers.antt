@@ -1,0 +1,21 @@
+-- `runs::run` meets its contract.
+use Prim.Native.Nat.{◌-◌}
+use native.Mathlib.Omega.{arith}
+use lib.ListN.{length, length-set}
+use Rattle.runs.specs.Lists.{lent}
+use Rattle.runs.proofs.Cutting.{Loop}
+use Rattle.runs.proofs.Cutting.{loop_entered as entered, loop_again as again, loop_over as over}
+use borrow.Author.Rules.{rules}
+use Rattle.runs.proofs.run.Goals as goal
+
+pub loop-i-init : goal.loop-i-init
+loop-i-init c = entered _ (omega arith)
+
+pub loop-i-smaller : goal.loop-i-smaller
+loop-i-smaller c = simp length-set (omega arith)
+
+pub loop-i-preserved : goal.loop-i-preserved
+loop-i-preserved c = search again
+
+pub returns : goal.returns
+returns c = search over

@@ -1,0 +1,14 @@
+use Prim.Native.Nat.{◌-◌}
+use native.Mathlib.Omega.{arith}
+use lib.ListN.{length, length-set}
+use Rattle.runs.specs.Lists.{lent}
+use Rattle.runs.proofs.Cutting.{Loop}
+use Rattle.runs.proofs.Cutting.{loop_entered as entered, loop_again as again, loop_over as over}
+use borrow.Author.Rules.{rules}
+use Rattle.runs.proofs.run.Given as goal
+
+abbrev pub invariant-loop-i : goal.invariant-loop-i
+invariant-loop-i l = Loop (lent l.commands l.sizes l.initial.rooms l.spaces l.initial.outcomes l.initial.store l.initial.kept) l.store l.rooms l.outcomes l.kept l.at l.to l.i
+
+abbrev pub decreases-loop-i : goal.decreases-loop-i
+decreases-loop-i l = length l.outcomes - l.i
