@@ -35,6 +35,8 @@ pub struct Body<'a> {
     /// The types of the locals, with the raw pointers' own.
     pub locals: Vec<Ty>,
     is_read: Vec<bool>,
+    /// The constants that it lends: bits and numbers.
+    lent: Vec<(u64, &'a [u64])>,
     around: Vec<Around>,
     out: String,
 }
@@ -47,6 +49,7 @@ impl<'a> Body<'a> {
             function,
             locals: function.locals.clone(),
             is_read: function.is_read(),
+            lent: Vec::new(),
             around: Vec::new(),
             out: String::new(),
         };
@@ -54,6 +57,7 @@ impl<'a> Body<'a> {
             let Statement::Assign(Place { local, steps }, from) = statement else {
                 continue;
             };
+            body.note_lent(*local, from);
             if function.locals[*local] == Ty::Ptr && steps.is_empty() {
                 let from = body.value(&Ty::Ptr, from)?.ty;
                 let (mutable, to) = from.pointee()?;
@@ -66,6 +70,16 @@ impl<'a> Body<'a> {
             }
         }
         Ok(body)
+    }
+
+    /// Takes note of a constant that is lent to a local which is read.
+    fn note_lent(&mut self, local: usize, from: &'a Value) {
+        if let Value::Lent(bits, numbers) = from {
+            let constant = (*bits, numbers.as_slice());
+            if self.is_read[local] && !self.lent.contains(&constant) {
+                self.lent.push(constant);
+            }
+        }
     }
 
     pub fn print(mut self) -> Answer<String> {
@@ -84,6 +98,13 @@ impl<'a> Body<'a> {
                 }
                 _ => {}
             }
+        }
+        for (number, (bits, numbers)) in self.lent.clone().iter().enumerate() {
+            let texts: Vec<String> = numbers.iter().map(|one| format!("{one}u")).collect();
+            let (ty, name) = (integer(*bits), lent(number));
+            let (length, numbers) = (numbers.len(), in_lines(&texts));
+            let constant = format!("static const {ty} {name}[{length}] = {{ {numbers} }};");
+            self.line(1, &constant);
         }
         self.statements(&self.function.body, 1)?;
         self.out += "}\n";
@@ -229,7 +250,21 @@ impl<'a> Body<'a> {
             Value::Arithmetic(sign, left, right) => self.arithmetic(sign, left, right),
             Value::Offset(base, bytes) => self.offset(base, bytes),
             Value::AddressOf(place) => self.address(place),
+            Value::Lent(bits, numbers) => self.lent_constant(*bits, numbers),
             Value::Aggregate(parts) => Ok(term(self.aggregate(into, parts)?, into.clone())),
+        }
+    }
+
+    /// A constant that is lent: its name, which stands for the address of its first element.
+    fn lent_constant(&self, bits: u64, numbers: &[u64]) -> Answer<Term> {
+        let found = self.lent.iter().position(|one| *one == (bits, numbers));
+        let number = found.ok_or("a constant that is lent to no local")?;
+        match bits {
+            64 => Err("a constant of u64 is lent: behind a reference C has size_t".to_string()),
+            _ => {
+                let array = Ty::Array(Box::new(Ty::Int(bits)), numbers.len() as u64);
+                Ok(term(lent(number), Ty::reference(false, array)))
+            }
         }
     }
 
@@ -456,6 +491,11 @@ impl<'a> Body<'a> {
         }
         Ok(())
     }
+}
+
+/// The name of a constant that a function lends.
+fn lent(number: usize) -> String {
+    format!("lent{}", number + 1)
 }
 
 /// Many elements in lines of sixteen.

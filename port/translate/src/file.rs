@@ -77,7 +77,7 @@ fn head(interface: &Interface, kit: &str) -> String {
 /*
  * {about}, in portable C99: what {header} declares.
  *
- * Made by port/translate (`make c`) from the MIR that `rt mir firmware` prints, with {kit}.
+ * Made by port/translate (`make c`) from the MIR that the proved crates hold, with {kit}.
  * Do not edit it. Each function but the last ones is a function of that MIR, a statement for a statement.
  *
  * That MIR is proved for every input. Not proved: this translation of it, the C compiler, and sizes behind references, which lie in C as

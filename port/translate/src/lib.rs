@@ -1,14 +1,14 @@
 //! Prints the MIR of the proved library as portable C99: read, checked against its types and the headers, printed. What is not known is refused.
-//! `same` holds the MIR that is printed against the MIR in the terms that are checked.
+//! `same` holds that MIR against the MIR in the terms that are checked.
 
 mod body;
 pub mod file;
 pub mod header;
 pub mod interface;
+pub mod json;
 pub mod mir;
 pub mod read;
 pub mod same;
-pub mod sexp;
 mod types;
 
 /// What was asked for, or why it cannot be had.

@@ -1,31 +1,39 @@
-//! Translates the MIR of the library, as `rt mir NAME` prints it on standard input, to the C files of an interface.
+//! Translates the MIR of the library to the C files of an interface.
 //!
-//! usage: translate INTERFACE HEADERS OUT KIT      the table, the folder of the headers, the folder to write to, the kit's version
+//! usage: translate INTERFACE HEADERS OUT KIT MIR..
+//!
+//! The table, the folder of the headers, the folder to write to, the kit's version, and the mir.json of each crate.
 //!
 //! Whatever is not known, or does not fit, is refused: no C file is written then.
 
 use std::fs;
-use std::io::{self, Read};
 use std::path::Path;
 use std::process::ExitCode;
-use translate::{file, header, interface, read, Answer};
+use translate::interface::{self, Interface};
+use translate::mir::Program;
+use translate::{file, header, read, Answer};
 
 fn text_of(path: &Path) -> Answer<String> {
     fs::read_to_string(path).map_err(|why| format!("{}: {why}", path.display()))
 }
 
+/// The MIR of what the interfaces name and what that calls.
+fn program(crates: &[String], interfaces: &[Interface]) -> Answer<Program> {
+    let texts = crates.iter().map(|file| text_of(Path::new(file)));
+    let libraries = read::Libraries::new(&texts.collect::<Answer<Vec<_>>>()?)?;
+    let first = interfaces.iter().flat_map(|one| one.functions.clone());
+    read::program(&libraries, &first.collect::<Vec<_>>())
+}
+
 fn run() -> Answer<()> {
     let words: Vec<String> = std::env::args().skip(1).collect();
-    let [table, headers, out, kit] = words.as_slice() else {
-        return Err("usage: translate INTERFACE HEADERS OUT KIT < MIR".to_string());
+    let [table, headers, out, kit, crates @ ..] = words.as_slice() else {
+        return Err("usage: translate INTERFACE HEADERS OUT KIT MIR..".to_string());
     };
-    let mut input = String::new();
-    io::stdin()
-        .read_to_string(&mut input)
-        .map_err(|why| why.to_string())?;
-    let program = read::program(&input)?;
+    let interfaces = interface::read(&text_of(Path::new(table))?)?;
+    let program = program(crates, &interfaces)?;
     let mut files = Vec::new();
-    for interface in interface::read(&text_of(Path::new(table))?)? {
+    for interface in interfaces {
         let named = |why| format!("{}: {why}", interface.header);
         let header =
             header::read(&text_of(&Path::new(headers).join(&interface.header))?).map_err(named)?;

@@ -71,6 +71,8 @@ pub enum Value {
     AddressOf(Place),
     /// A struct of its fields, an array of its elements, or an enum of its tag and fields.
     Aggregate(Vec<Operand>),
+    /// A shared reference to a constant array, in memory of its own that is never written: the bits of its numbers, and the numbers.
+    Lent(u64, Vec<u64>),
 }
 
 #[derive(Debug)]
@@ -261,7 +263,7 @@ impl Value {
             Value::Arithmetic(_, left, right)
             | Value::Comparison(_, left, right)
             | Value::Offset(left, right) => vec![left, right],
-            Value::AddressOf(_) => Vec::new(),
+            Value::AddressOf(_) | Value::Lent(..) => Vec::new(),
             Value::Aggregate(parts) => parts.iter().collect(),
         }
     }

@@ -1,23 +1,26 @@
-//! Compares the MIR that `rt mir` prints with the MIR in the terms that are checked, function by function.
+//! Compares the MIR that the libraries hold with the MIR in the terms that are checked, for each function that is translated.
 //!
-//! usage: same PRINTED.mir GOALS_FOLDER
+//! usage: same INTERFACE TERMS MIR..
+//!
+//! The table, the folder to which `rt check --generated` wrote each crate, and the mir.json of each crate.
 
-use std::fmt::Display;
 use std::path::Path;
 use std::process::ExitCode;
+use translate::json::Json;
+use translate::read::Libraries;
 use translate::same::difference::difference;
-use translate::same::{printed, terms};
-use translate::sexp::{parse, Sexp};
+use translate::same::{library, terms};
+use translate::{interface, Answer};
 
 fn main() -> ExitCode {
     let words: Vec<String> = std::env::args().skip(1).collect();
-    let [printed, goals] = &words[..] else {
-        eprintln!("usage: same PRINTED.mir GOALS_FOLDER");
+    let [table, terms, crates @ ..] = &words[..] else {
+        eprintln!("usage: same INTERFACE TERMS MIR..");
         return ExitCode::from(2);
     };
-    match all(printed, Path::new(goals)) {
+    match all(table, Path::new(terms), crates) {
         Ok(count) => {
-            println!("{count} functions: the MIR that is printed is the MIR in the terms that are checked");
+            println!("{count} functions: the MIR that is translated is the MIR in the terms that are checked");
             ExitCode::SUCCESS
         }
         Err(wrong) => {
@@ -27,23 +30,29 @@ fn main() -> ExitCode {
     }
 }
 
+fn text_of(file: &String) -> Answer<String> {
+    std::fs::read_to_string(file).map_err(|wrong| format!("{file}: {wrong}"))
+}
+
 /// How many functions were compared, if all are the same. Each that is not is said.
-fn all(file: &str, goals: &Path) -> Result<usize, String> {
-    let said = |wrong: &dyn Display| format!("the printed MIR in {file}: {wrong}");
-    let text = std::fs::read_to_string(file).map_err(|wrong| said(&wrong))?;
-    let program = parse(&text).map_err(|wrong| said(&wrong))?;
-    let mut functions = printed::functions(&program).map_err(|wrong| said(&wrong))?;
-    // `fn main() {}`, the toolchain's own: it prints a library as part of a program. No other is left out.
-    functions.retain(|(name, _)| *name != "rt_empty::main");
+fn all(table: &String, terms: &Path, crates: &[String]) -> Answer<usize> {
+    let interfaces = interface::read(&text_of(table)?)?;
+    let first: Vec<String> = interfaces
+        .iter()
+        .flat_map(|one| one.functions.clone())
+        .collect();
+    let texts: Vec<String> = crates.iter().map(text_of).collect::<Answer<_>>()?;
+    let libraries = Libraries::new(&texts)?;
+    let functions = libraries.reached(&first)?;
     let mut wrong = 0;
     for (name, function) in &functions {
-        if let Err(why) = one(name, function, goals) {
+        if let Err(why) = one(name, function, terms) {
             eprintln!("same: {name}: {why}");
             wrong += 1;
         }
     }
     match (functions.len(), wrong) {
-        (0, _) => Err(said(&"no function was compared, for it has none")),
+        (0, _) => Err("no function was compared, for the table names none".to_string()),
         (count, 0) => Ok(count),
         (count, _) => Err(format!(
             "{wrong} of {count} functions are not shown to be the same"
@@ -51,8 +60,8 @@ fn all(file: &str, goals: &Path) -> Result<usize, String> {
     }
 }
 
-fn one(name: &str, function: &Sexp, goals: &Path) -> Result<(), String> {
-    let printed = printed::code(function).map_err(|wrong| format!("as printed: {wrong}"))?;
-    let term = terms::code(goals, name).map_err(|wrong| format!("in the term: {wrong}"))?;
-    difference(&printed, &term).map_or(Ok(()), Err)
+fn one(name: &str, function: &Json, terms: &Path) -> Answer<()> {
+    let held = library::code(function).map_err(|wrong| format!("in the library: {wrong}"))?;
+    let term = terms::code(terms, name).map_err(|wrong| format!("in the term: {wrong}"))?;
+    difference(&held, &term).map_or(Ok(()), Err)
 }

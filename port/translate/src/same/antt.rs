@@ -1,4 +1,4 @@
-//! A module of antt as `rt goals` writes it: what it uses, and its definitions as terms.
+//! A module of antt as `rt check --generated` writes it: what it uses, and its definitions as terms.
 
 use std::collections::HashMap;
 use std::iter::Peekable;
@@ -20,12 +20,13 @@ pub struct Module {
 }
 
 impl Module {
-    /// Empty lines stand between the parts. What a part defines is taken if it begins with
-    /// `abbrev pub`; no other definition is known here, and to name one is an error.
+    /// Empty lines stand between the parts. What a part defines is taken if it begins with `abbrev pub`
+    /// or `unfoldable pub`; no other definition is known here, and to name one is an error.
     pub fn new(source: &str) -> Result<Module, String> {
         let mut module = Module::default();
         for part in source.split("\n\n") {
-            if let Some(definition) = part.strip_prefix("abbrev pub ") {
+            let defined = ["abbrev pub ", "unfoldable pub "].map(|word| part.strip_prefix(word));
+            if let [Some(definition), _] | [_, Some(definition)] = defined {
                 module.add_definition(definition)?;
                 continue;
             }

@@ -3,18 +3,18 @@
 use super::grammar::Tree;
 
 /// The way to the first difference, and what stands there in each; nothing if the trees are equal.
-pub fn difference<'a>(mut printed: &'a Tree, mut term: &'a Tree) -> Option<String> {
-    if printed == term {
+pub fn difference<'a>(mut held: &'a Tree, mut term: &'a Tree) -> Option<String> {
+    if held == term {
         return None;
     }
     let mut steps = Vec::new();
-    while let Some((form, at, one, other)) = unequal_part(printed, term) {
+    while let Some((form, at, one, other)) = unequal_part(held, term) {
         steps.push((form, at));
-        (printed, term) = (one, other);
+        (held, term) = (one, other);
     }
-    let (way, ours, theirs) = (way(&steps), printed.brief(), term.brief());
+    let (way, ours, theirs) = (way(&steps), held.brief(), term.brief());
     Some(format!(
-        "differs at {way}: printed {ours}, in the term {theirs}"
+        "differs at {way}: in the library {ours}, in the term {theirs}"
     ))
 }
 
@@ -29,7 +29,15 @@ fn unequal_part<'a>(one: &'a Tree, other: &'a Tree) -> Option<Unequal<'a>> {
     pairs.find_map(|(at, (one, other))| (one != other).then_some((form.as_str(), at, one, other)))
 }
 
-const FN_PARTS: [&str; 5] = ["lifetimes", "outlives", "params", "locals", "body"];
+const FN_PARTS: [&str; 7] = [
+    "lifetimes",
+    "outlives",
+    "ty_params",
+    "givens",
+    "params",
+    "locals",
+    "body",
+];
 
 /// The steps in words: `[3]` is the third member of a list or the third statement, and `op2.1` the
 /// first part of `op2`.
@@ -48,9 +56,9 @@ fn way(steps: &[(&str, usize)]) -> String {
         }
         match (form, at) {
             _ if in_list => {}
-            ("spellFn", 0) => words.push("table".to_string()),
-            ("spellFn", _) => words.push("function".to_string()),
-            ("fnItem", _) => words.push(FN_PARTS[at].to_string()),
+            ("spell_fn", 0) => words.push("table".to_string()),
+            ("spell_fn", _) => words.push("function".to_string()),
+            ("fn_item", _) => words.push(FN_PARTS[at].to_string()),
             _ => words.push(format!("{form}.{}", at + 1)),
         }
     }

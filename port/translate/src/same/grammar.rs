@@ -2,42 +2,45 @@
 
 use std::fmt;
 
-/// The sorts and their forms, named as in Rattle's `logic/Mir/Syntax.antt` and `Table.antt`.
-/// `Number`, `Length` (an array's), `Sym` (a type's name) and `Name` (a function's) have no forms:
-/// each reader has its own way to read them. Floats and `ptrConst` are not known.
+/// The sorts and their forms, named as in Rattle's `logic/Mir/Syntax.antt`, `Table.antt` and `Prog/Wired.antt`.
+/// `Number`, `Sym` (a type's name) and `Name` (a function's) have no forms: each reader has its own way to read them. Floats, vectors,
+/// threads, and functions and types that take types are not known.
 const GRAMMAR: &str = "
 Members = nil | cons Member Members
 Member = pair Name Code
-Code = fnItem Number Bounds Number Locals Body | spellFn Table Fn
-Fn = fnItem Number Bounds Number Locals Body
+Code = fn_item Number Bounds Kinds Number Number Locals Body | spell_fn Table Fn
+Fn = fn_item Number Bounds Kinds Number Number Locals Body
 Bounds = nil | cons Bound Bounds
 Bound = pair Number Number
+Kinds = nil
 Locals = nil | cons Local Locals
 Local = local Ty Home
-Home = valueLocal | memorySlot
+Home = value_local | memory_slot
 Table = nil | cons Decl Table
-Decl = pair Sym Shape
+Decl = pair Sym Kinds Shape
 Shape = fields Tys | variants Tyss
-Ty = tyInt Width | tyBool | tyPtr | tyRef Lifetime Mutability Ty | tyArray Ty Length | tyUnit | tyStruct Sym Tys | tyEnum Sym Tyss | tyNamed Head
+Ty = ty_int Width | ty_bool | ty_ptr | ty_ref Lifetime Mutability Ty | ty_array Ty Number | ty_unit | ty_struct Sym Tys | ty_named Head Tys
 Tys = tnil | tcons Ty Tys
 Tyss = ttnil | ttcons Tys Tyss
 Head = pair Sym Lifetimes
 Lifetimes = nil | cons Lifetime Lifetimes
-Lifetime = named Number | boundLv Number | static | erased
+Lifetime = named Number | bound_lv Number | static | erased
 Mutability = imm | mut
 Width = w8 | w16 | w32 | w64 | w128
 Sign = unsigned | signed
-Body = skip | seq Body Body | assign Place Rv | block Body | loop Body | cond Opd Body Body | switch Opd Arms | exit Number | return | call Name Opds Place
-Arms = arm Numbers Body Arms | default Body | noDefault
+Body = skip | seq Body Body | assign Place Rv | block Body | loop Body | cond Opd Body Body | switch Opd Arms | exit Number | return | call Callee Opds Place | unreachable | lend_static Place Ty Const
+Callee = fn₀ Name
+Arms = arm Numbers Body Arms | default Body | no_default
 Numbers = nil | cons Number Numbers
 Place = place Number Steps
 Steps = nil | cons Step Steps
 Step = deref Ty | field Number | variant Number
-Rv = rvOpd Opd | op2 Op2 Opd Opd | op1 Op1 Opd | addrOf Place | aggregate Opds | repeat Opd Number
+Rv = rv_opd Opd | op2 Op2 Opd Opd | op1 Op1 Opd | addr_of Place | aggregate Opds | repeat Opd Number
 Opds = nil | cons Opd Opds
-Opd = copy Place | int Width Number | intBig Width Number | intNeg Width Number | opdTrue | opdFalse | opdUnit
-Op1 = bitNot | cast Sign Sign Width | ptrAddr | leadingZeros | trailingZeros | countOnes
-Op2 = add Sign | sub Sign | mul Sign | div Sign | rem Sign | bitAnd | bitOr | bitXor | shl | shr Sign | eq | ne | lt Sign | le Sign | withAddr | offset | ptrEq | ptrNe | ptrLt | ptrLe
+Opd = copy Place | int Width Number | int_big Width Number | int_neg Width Number | opd_true | opd_false | opd_unit
+Op1 = bit_not | cast Sign Sign Width | ptr_addr | count_leading_zeros | count_trailing_zeros | count_ones
+Op2 = add Sign | sub Sign | mul Sign | div Sign | rem Sign | bit_and | bit_or | bit_xor | shl | shr Sign | eq | ne | lt Sign | le Sign | with_addr | offset | ptr_eq | ptr_ne | ptr_lt | ptr_le | wrap_add | wrap_sub | wrap_mul
+Const = c_ints Width Numbers
 ";
 
 pub type Sort = &'static str;
@@ -50,7 +53,7 @@ pub enum Tree {
 }
 
 /// The sorts of the parts of a form, if that sort has it.
-fn parts_of(sort: Sort, form: &str) -> Option<Vec<Sort>> {
+pub fn parts_of(sort: Sort, form: &str) -> Option<Vec<Sort>> {
     let mut rules = GRAMMAR.lines().filter_map(|line| line.split_once(" = "));
     let (_, forms) = rules.find(|rule| rule.0 == sort)?;
     let mut forms = forms.split(" | ").map(|form| form.split(' '));

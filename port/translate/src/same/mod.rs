@@ -1,7 +1,7 @@
-//! The MIR that is printed held against the MIR in the terms that are checked: two readers, one grammar, one comparison.
+//! The MIR that the libraries hold, held against the MIR in the terms that are checked: two readers, one grammar, one comparison.
 
 mod antt;
 pub mod difference;
 pub mod grammar;
-pub mod printed;
+pub mod library;
 pub mod terms;

@@ -1,16 +1,16 @@
-//! The MIR in the terms that are checked, from the folder to which `rt goals` writes them.
+//! The MIR in the terms that are checked, from the folder to which `rt check --generated` writes them.
 
 use super::antt::{Module, Term};
 use super::grammar::{node, number, Sort, Tree};
 use std::path::Path;
 
 /// What a function's name stands for in the program that its proof is about: that program is
-/// `members` in its Code.antt, a list of names with their code.
-pub fn code(goals: &Path, function: &str) -> Result<Tree, String> {
+/// `Wired.node MEMBERS .. CALLED` in its Code.antt, the members a list of names with their code.
+pub fn code(terms: &Path, function: &str) -> Result<Tree, String> {
     let (owner, name) = function.split_once("::").ok_or("its name has no crate")?;
     let name = name.replace("::", ".");
-    let scope = Scope::open(goals, &format!("Rattle·{owner}·proofs.proofs.{name}.Code"))?;
-    let members = scope.value("Members", "members", &[])?;
+    let scope = Scope::open(terms, &format!("Rattle.{owner}.proofs.{name}.Code"))?;
+    let members = scope.members()?;
     let alone = match members.parts("cons") {
         [member, rest] if rest.parts("cons").is_empty() => member.parts("pair"),
         _ => &[],
@@ -18,7 +18,7 @@ pub fn code(goals: &Path, function: &str) -> Result<Tree, String> {
     match alone {
         [Tree::Text(name), code] if name == function => Ok(code.clone()),
         _ => Err(format!(
-            "`members` must be it alone, and is {}",
+            "the program must be it alone, and is {}",
             members.brief()
         )),
     }
@@ -26,30 +26,44 @@ pub fn code(goals: &Path, function: &str) -> Result<Tree, String> {
 
 /// The module that says what the names in a term are.
 struct Scope<'a> {
-    goals: &'a Path,
+    terms: &'a Path,
     module: Module,
 }
 
 impl Scope<'_> {
-    /// The module at a path as `Rattle·CRATE.a.b` or `Rattle·CRATE·proofs.a.b`.
-    fn open<'a>(goals: &'a Path, path: &str) -> Result<Scope<'a>, String> {
-        let owner = path.split(['·', '.']).nth(1).unwrap_or_default();
-        let file = goals.join(owner).join(path.replace('.', "/") + ".antt");
+    /// The module at a path as `Rattle.CRATE.proofs.a.b`, which is a/b.antt in the folder Rattle-CRATE-proofs.
+    fn open<'a>(terms: &'a Path, path: &str) -> Result<Scope<'a>, String> {
+        let mut steps = path.split('.');
+        let library: Vec<&str> = steps.by_ref().take(3).collect();
+        let within: Vec<&str> = steps.collect();
+        let file = terms
+            .join(library.join("-"))
+            .join(within.join("/") + ".antt");
         let shown = file.display();
         let source = std::fs::read_to_string(&file);
         let source = source.map_err(|wrong| format!("the file {shown} is expected: {wrong}"))?;
         let module = Module::new(&source).map_err(|wrong| format!("the file {shown}: {wrong}"))?;
-        Ok(Scope { goals, module })
+        Ok(Scope { terms, module })
+    }
+
+    /// The functions of the program that `code` is, without those that it only calls.
+    fn members(&self) -> Result<Tree, String> {
+        let code = self.module.definition("code");
+        let code = code.ok_or("the module defines no `code`")??;
+        match (self.module.used(&code.head), code.parts.as_slice()) {
+            (Some(("prog.Wired", "node")), [members, _, _]) => self.read("Members", members),
+            _ => Err(format!("`code` is {}, not `Wired.node`", code.head)),
+        }
     }
 
     fn read(&self, sort: Sort, term: &Term) -> Result<Tree, String> {
         let read = |sort: Sort, part: &Term| self.read(sort, part);
         match (sort, term.head.as_str(), &term.parts[..]) {
-            ("Number" | "Length", digits, []) => number(digits),
+            ("Number", digits, []) => number(digits),
             ("Name", text, []) if text.starts_with('"') => Ok(Tree::Text(text.replace('"', ""))),
             ("Sym", _, _) => symbol(&read("Numbers", term)?),
             (_, ",", parts) => node(sort, "pair", parts, read),
-            (_, RECORD, parts) => node(sort, "fnItem", parts, read),
+            (_, RECORD, parts) => node(sort, "fn_item", parts, read),
             (_, name, parts) => self.value(sort, name, parts),
         }
     }
@@ -60,20 +74,20 @@ impl Scope<'_> {
             return self.read(sort, &term?);
         }
         let form = match (self.module.used(name), parts) {
-            (Some((path, member)), []) if path.starts_with("Rattle·") => {
-                return Scope::open(self.goals, path)?.value(sort, member, &[]);
+            (Some((path, member)), []) if path.starts_with("Rattle.") => {
+                return Scope::open(self.terms, path)?.value(sort, member, &[]);
             }
             (Some(("mir.Syntax" | "mir.Table", form)), _) => form,
             (Some(("mathlib.Core.List", "[]")), _) => "nil",
-            (Some(("mathlib.Core.List", "_∷_")), _) => "cons",
-            (Some(("mir.MapTy", "spellFn")), _) => "spellFn",
+            (Some(("mathlib.Core.List", "◌∷◌")), _) => "cons",
+            (Some(("mir.MapTy", "spell_fn")), _) => "spell_fn",
             _ => return Err(format!("`{name}` is not known where {sort} is expected")),
         };
         constant(node(sort, form, parts, |sort, part| self.read(sort, part))?)
     }
 }
 
-const RECORD: &str = "record lifetimes outlives params locals body";
+const RECORD: &str = "record lifetimes outlives ty_params givens params locals body";
 
 /// A type's name, from the list of its bytes.
 fn symbol(mut list: &Tree) -> Result<Tree, String> {
@@ -86,9 +100,9 @@ fn symbol(mut list: &Tree) -> Result<Tree, String> {
     Ok(Tree::Text(text))
 }
 
-/// The other two ways to write a constant: `intBig w n` is `int w n`, and `intNeg w k` is 2 ^ w - k.
+/// The other two ways to write a constant: `int_big w n` is `int w n`, and `int_neg w k` is 2 ^ w - k.
 fn constant(tree: Tree) -> Result<Tree, String> {
-    let (width, value) = match (tree.parts("intBig"), tree.parts("intNeg")) {
+    let (width, value) = match (tree.parts("int_big"), tree.parts("int_neg")) {
         ([width, Tree::Number(value)], _) => (width, Some(*value)),
         (_, [width, Tree::Number(less)]) => (width, below(width, *less)),
         _ => return Ok(tree),

@@ -1,4 +1,4 @@
-//! Small programs of MIR as `rt mir` prints them, one function `lib::entry` in each, and their translation behind a header.
+//! Small libraries of MIR as their mir.json has it, one function `lib::entry` in each, and their translation behind a header.
 
 use translate::{file, header, interface, read, Answer};
 
@@ -32,64 +32,140 @@ struct host_pair is lib::Pair low high
 function lib::entry
 ";
 
-/// The list `(lcons a (lcons b lnil))`.
-pub fn list(parts: &[&str]) -> String {
-    let cons = |rest: String, part: &&str| format!("(lcons {part} {rest})");
-    parts.iter().rev().fold("lnil".to_string(), cons)
+pub const PAIR: &str = r#"{"Named":[{"name":"lib::Pair","lifetimes":[]},[]]}"#;
+pub const CHOICE: &str = r#"{"Named":[{"name":"lib::Choice","lifetimes":[]},[]]}"#;
+
+/// A constant of so many bits.
+pub fn int(width: u64, value: u64) -> String {
+    format!(r#"{{"Int":{{"width":{width},"value":{value}}}}}"#)
+}
+
+pub fn place(local: usize, steps: &[&str]) -> String {
+    format!(r#"{{"local":{local},"steps":[{}]}}"#, steps.join(","))
+}
+
+/// What is stored at a place, as an operand.
+pub fn copy(local: usize, steps: &[&str]) -> String {
+    format!(r#"{{"Copy":{}}}"#, place(local, steps))
+}
+
+/// An operand as a value.
+pub fn opd(operand: &str) -> String {
+    format!(r#"{{"Opd":{operand}}}"#)
+}
+
+pub fn op1(what: &str, of: &str) -> String {
+    format!(r#"{{"Op1":[{what},{of}]}}"#)
+}
+
+pub fn op2(what: &str, left: &str, right: &str) -> String {
+    format!(r#"{{"Op2":[{what},{left},{right}]}}"#)
+}
+
+/// The operation with an unsigned sign.
+pub fn unsigned(word: &str) -> String {
+    format!(r#"{{"{word}":"Unsigned"}}"#)
+}
+
+/// An integer of so many bits, of one that is as unsigned.
+pub fn cast(bits: u64, of: &str) -> String {
+    op1(&format!(r#"{{"Cast":["Unsigned","Unsigned",{bits}]}}"#), of)
+}
+
+pub fn aggregate(parts: &[&str]) -> String {
+    format!(r#"{{"Aggregate":[{}]}}"#, parts.join(","))
+}
+
+/// The address of a local.
+pub fn address(local: usize) -> String {
+    format!(r#"{{"AddrOf":{}}}"#, place(local, &[]))
+}
+
+/// Stores a value in a local.
+pub fn set(local: usize, value: &str) -> String {
+    store(&place(local, &[]), value)
+}
+
+pub fn store(place: &str, value: &str) -> String {
+    format!(r#"{{"Assign":[{place},{value}]}}"#)
+}
+
+pub fn reference(mutability: &str, to: &str) -> String {
+    format!(r#"{{"Ref":["Erased","{mutability}",{to}]}}"#)
+}
+
+pub fn array(of: &str, length: u64) -> String {
+    format!(r#"{{"Array":[{of},{{"Lit":{length}}}]}}"#)
+}
+
+pub fn call(function: &str, arguments: &[&str]) -> String {
+    let (result, arguments) = (place(0, &[]), arguments.join(","));
+    let callee = format!(r#"{{"Fn":["{function}",{{"types":[],"dicts":[]}}]}}"#);
+    format!(r#"{{"Call":[{callee},[{arguments}],{result}]}}"#)
+}
+
+pub fn local(ty: &str) -> String {
+    format!(r#"{{"ty":{ty},"home":"ValueLocal"}}"#)
 }
 
 /// `lib::entry(&[u8]) -> u8`: local 0 is a u8, 1 the slice, 2 a u8, 3 a u64, 4 a bool, 5 a raw pointer, then the given ones.
 pub fn entry(locals: &[&str], statements: &[&str]) -> String {
-    let slice =
-        "(tyStruct \"&[]\" (tcons (tyRef (named 0) imm (tyInt 8)) (tcons (tyInt 64) tnil)))";
+    let slice = r#"{"Struct":["&[]",[{"Ref":[{"Named":0},"Imm",{"Int":8}]},{"Int":64}]]}"#;
     let own = [
-        "(tyInt 8)",
+        r#"{"Int":8}"#,
         slice,
-        "(tyInt 8)",
-        "(tyInt 64)",
-        "tyBool",
-        "tyPtr",
+        r#"{"Int":8}"#,
+        r#"{"Int":64}"#,
+        r#""Bool""#,
+        r#""Ptr""#,
     ];
-    let all: Vec<String> = own
+    let all: Vec<String> = own.iter().chain(locals).map(|ty| local(ty)).collect();
+    let body: Vec<String> = statements
         .iter()
-        .chain(locals)
-        .map(|ty| format!("(local {ty} valueLocal)"))
+        .map(|one| format!(r#""Seq",{one}"#))
+        .chain([r#""Return""#.to_string()])
         .collect();
-    let all: Vec<&str> = all.iter().map(String::as_str).collect();
-    let body = statements
-        .iter()
-        .rev()
-        .fold("return".to_string(), |rest, one| {
-            format!("(seq {one} {rest})")
-        });
-    function("lib::entry", 1, &list(&all), &body)
+    function("lib::entry", 1, &all, &body.join(","))
 }
 
-pub fn function(name: &str, parameters: usize, locals: &str, body: &str) -> String {
-    let pair = "(pair \"lib::Pair\" (fields (tcons (tyInt 8) (tcons (tyInt 64) tnil))))";
-    let choice =
-        "(pair \"lib::Choice\" (variants (ttcons tnil (ttcons (tcons (tyInt 16) tnil) ttnil))))";
+/// A function of declared types that are always the same.
+pub fn function(name: &str, parameters: usize, locals: &[String], body: &str) -> String {
+    let declared = |name: &str, shape: &str| {
+        format!(
+            r#"{{"name":"{name}","lifetimes":0,"bounds":[],"type_params":0,"const_params":[],"type_bounds":[],"owns":false,"is_cell":false,"shape":{shape},"is_tuple":false}}"#
+        )
+    };
+    let pair = declared("lib::Pair", r#"{"Fields":[{"Int":8},{"Int":64}]}"#);
+    let choice = declared("lib::Choice", r#"{"Variants":[[],[{"Int":16}]]}"#);
+    let generics =
+        r#"{"types":[],"outlives":[],"bounds":[],"method_of":null,"trait_lifetimes":0,"impls":[]}"#;
+    let locals = locals.join(",");
     format!(
-        "(fn-def \"{name}\" (fnItem 1 lnil {parameters} {locals} {body}) {})",
-        list(&[pair, choice])
+        r#"["{name}",{{"lifetimes":1,"outlives":[],"params":{parameters},"generics":{generics},"types":[{pair},{choice}],"locals":[{locals}],"body":[{body}]}}]"#
     )
 }
 
-pub fn program(functions: &[&str]) -> String {
-    format!("program {} (fnRef \"lib::entry\")", list(functions))
+pub fn library(functions: &[&str]) -> String {
+    format!("[{}]", functions.join(","))
 }
 
-/// The C file for a program, by the table and the header.
+/// The C file for a library, by the table and the header.
 pub fn translated(mir: &str, table: &str, header_text: &str) -> Answer<String> {
-    let program = read::program(mir)?;
+    translated_together(&[mir.to_string()], table, header_text)
+}
+
+/// The same for several libraries.
+pub fn translated_together(mir: &[String], table: &str, header_text: &str) -> Answer<String> {
+    let libraries = read::Libraries::new(mir)?;
     let interfaces = interface::read(table)?;
+    let program = read::program(&libraries, &interfaces[0].functions)?;
     let header = header::read(header_text)?;
     file::print(&program, &interfaces[0], &header, "a kit")
 }
 
 /// The lines of the body that `lib::entry` has in C.
 pub fn body_of(locals: &[&str], statements: &[&str]) -> Vec<String> {
-    let text = translated(&program(&[&entry(locals, statements)]), TABLE, HEADER)
+    let text = translated(&library(&[&entry(locals, statements)]), TABLE, HEADER)
         .expect("it is translated");
     let start = text
         .find("static uint8_t lib__entry(slice_u8 v1)\n{\n")
@@ -108,6 +184,6 @@ pub fn body_of(locals: &[&str], statements: &[&str]) -> Vec<String> {
 
 /// Why the program of these locals and statements is refused.
 pub fn refusal(locals: &[&str], statements: &[&str]) -> String {
-    let mir = program(&[&entry(locals, statements)]);
+    let mir = library(&[&entry(locals, statements)]);
     translated(&mir, TABLE, HEADER).expect_err("it is refused")
 }

@@ -1,14 +1,14 @@
 //! The table of what C sees is held against the header and the MIR: a difference is refused, and says what stands where.
 
-use crate::common::{entry, program, translated, HEADER, TABLE};
+use crate::common::{entry, library, translated, HEADER, TABLE};
 
 fn refusal(table: &str, header: &str) -> String {
-    translated(&program(&[&entry(&[], &[])]), table, header).expect_err("it is refused")
+    translated(&library(&[&entry(&[], &[])]), table, header).expect_err("it is refused")
 }
 
 #[test]
 fn a_table_that_fits() {
-    let text = translated(&program(&[&entry(&[], &[])]), TABLE, HEADER).expect("it is translated");
+    let text = translated(&library(&[&entry(&[], &[])]), TABLE, HEADER).expect("it is translated");
     assert!(text.starts_with("/*\n * A library, in portable C99: what lib.h declares.\n"));
     assert!(text.contains("with a kit.\n"));
     assert!(text.contains("\nuint8_t entry(const uint8_t *bytes, size_t bytes_len)\n{\n"));
@@ -115,7 +115,7 @@ fn a_table_that_is_not_known() {
 /// A u64 is a size_t to C, which may have 32 bits: none is given back by value.
 #[test]
 fn a_size_as_a_result() {
-    let mir = program(&[&entry(&[], &[]).replacen("(local (tyInt 8) ", "(local (tyInt 64) ", 1)]);
+    let mir = library(&[&entry(&[], &[]).replacen(r#"{"ty":{"Int":8}"#, r#"{"ty":{"Int":64}"#, 1)]);
     let header = HEADER.replace("uint8_t entry(const", "size_t entry(const");
     let why = translated(&mir, TABLE, &header).expect_err("it is refused");
     assert_eq!(why, "lib::entry: a u64 as a result: C has size_t");

@@ -2,8 +2,8 @@
 
 mod common;
 mod headers;
+mod json;
 mod layout;
 mod refusals;
 mod same;
-mod sexp;
 mod statements;

@@ -1,164 +1,224 @@
 //! What is not known, or does not fit, is refused in words that name the function and the form.
 
-use crate::common::{entry, function, list, program, refusal, translated, HEADER, TABLE};
-
-const TO_2: &str = "(place 2 lnil)";
+use crate::common::{
+    address, aggregate, array, call, copy, entry, function, int, library, local, op1, op2, opd,
+    place, reference, refusal, set, store, translated, unsigned, CHOICE, HEADER, PAIR, TABLE,
+};
+use crate::statements::lend;
 
 fn refused_value(value: &str) -> String {
-    refusal(
-        &[],
-        &[
-            &format!("(assign {TO_2} {value})"),
-            "(assign (place 0 lnil) (rvOpd (copy (place 2 lnil))))",
-        ],
-    )
+    refusal(&[], &[&set(2, value), &set(0, &opd(&copy(2, &[])))])
 }
 
 #[test]
 fn an_unknown_operation() {
-    let why = refused_value("(op2 (shr unsigned) (copy (place 2 lnil)) (int 8 1))");
+    let why = refused_value(&op2(&unsigned("Shr"), &copy(2, &[]), &int(8, 1)));
     assert_eq!(
         why,
-        "lib::entry: (shr unsigned) is not a known operation of MIR"
+        r#"lib::entry: {"Shr":"Unsigned"} is not a known operation of MIR"#
     );
-    let why = refused_value("(op1 countOnes (copy (place 2 lnil)))");
-    assert_eq!(why, "lib::entry: countOnes is not a known operation of MIR");
+    let why = refused_value(&op2(r#""WrapAdd""#, &copy(2, &[]), &int(8, 1)));
+    assert_eq!(
+        why,
+        r#"lib::entry: "WrapAdd" is not a known operation of MIR"#
+    );
+    let why = refused_value(&op1(r#""CountOnes""#, &copy(2, &[])));
+    assert_eq!(
+        why,
+        r#"lib::entry: "CountOnes" is not a known operation of MIR"#
+    );
 }
 
 #[test]
 fn a_signed_operation() {
-    let why = refused_value("(op2 (add signed) (copy (place 2 lnil)) (int 8 1))");
+    let why = refused_value(&op2(r#"{"Add":"Signed"}"#, &copy(2, &[]), &int(8, 1)));
     assert_eq!(
         why,
-        "lib::entry: (add signed) is not a known operation of MIR"
+        r#"lib::entry: {"Add":"Signed"} is not a known operation of MIR"#
     );
-    let why = refused_value("(op1 (cast unsigned signed 8) (copy (place 2 lnil)))");
+    let why = refused_value(&op1(r#"{"Cast":["Unsigned","Signed",8]}"#, &copy(2, &[])));
     assert_eq!(
         why,
-        "lib::entry: (cast unsigned signed 8) is not a known operation of MIR"
+        r#"lib::entry: {"Cast":["Unsigned","Signed",8]} is not a known operation of MIR"#
     );
 }
 
 #[test]
 fn an_unknown_value_operand_type_and_statement() {
-    let why = refused_value("(discriminant (place 2 lnil))");
+    let select = r#"{"Select":["True","True","True"]}"#;
+    assert_eq!(
+        refused_value(select),
+        format!("lib::entry: {select} is not a known value of MIR")
+    );
+    let float = r#"{"Float":{"width":32,"bits":0}}"#;
+    assert_eq!(
+        refused_value(&opd(float)),
+        format!("lib::entry: {float} is not a known operand of MIR")
+    );
+    let why = refusal(&[r#"{"Float":64}"#], &[]);
     assert_eq!(
         why,
-        "lib::entry: (discriminant (place 2 lnil)) is not a known value of MIR"
+        r#"lib::entry: {"Float":64} is not a known type of MIR"#
     );
-    let why = refused_value("(rvOpd (float binary32 0))");
-    assert_eq!(
-        why,
-        "lib::entry: (float binary32 0) is not a known operand of MIR"
-    );
-    let why = refusal(&["(tyFloat binary64)"], &[]);
-    assert_eq!(
-        why,
-        "lib::entry: (tyFloat binary64) is not a known type of MIR"
-    );
-    let why = refusal(&["(tyInt 128)"], &[]);
+    let why = refusal(&[r#"{"Int":128}"#], &[]);
     assert_eq!(
         why,
         "lib::entry: 128 is not a known width of an integer of MIR"
     );
-    let why = refusal(&[], &["(drop (place 2 lnil))"]);
+    let why = refusal(&[], &[r#""Unreachable""#]);
     assert_eq!(
         why,
-        "lib::entry: (drop (place 2 lnil)) is not a known statement of MIR"
+        r#"lib::entry: "Unreachable" is not a known statement of MIR"#
     );
+}
+
+/// Types that hold types, numbers or what must be let go by a call.
+#[test]
+fn an_unknown_declared_type() {
+    let why = |old: &str, new: &str| {
+        let mir = library(&[&entry(&[], &[])]).replacen(old, new, 1);
+        translated(&mir, TABLE, HEADER).expect_err("it is refused")
+    };
+    let edits = [
+        (r#""type_params":0"#, r#""type_params":1"#),
+        (r#""const_params":[]"#, r#""const_params":[0]"#),
+        (r#""owns":false"#, r#""owns":true"#),
+        (r#""is_cell":false"#, r#""is_cell":true"#),
+        (r#""is_tuple":false"#, r#""is_tuple":true"#),
+    ];
+    for (old, new) in edits {
+        let why = why(old, new);
+        assert!(
+            why.starts_with(r#"lib::entry: {"name":"lib::Pair","#)
+                && why.ends_with(".. is not a known declared type of MIR"),
+            "{new}: {why}"
+        );
+    }
+    let why = why(r#""owns":false"#, r#""owns":false,"view":{}"#);
+    assert!(
+        why.starts_with("lib::entry: expected the keys name, "),
+        "{why}"
+    );
+    let generic = refusal(&[&PAIR.replace("},[]]", r#"},["Bool"]]"#)], &[]);
+    assert!(
+        generic.ends_with(" is not a known type of MIR"),
+        "{generic}"
+    );
+}
+
+#[test]
+fn a_function_that_takes_types() {
+    let edits = [
+        (r#""generics":{"types":[]"#, r#""generics":{"types":["T"]"#),
+        (r#""bounds":[],"method"#, r#""bounds":["Copy"],"method"#),
+        (r#""method_of":null"#, r#""method_of":0"#),
+        (r#""impls":[]"#, r#""impls":[0]"#),
+    ];
+    for (old, new) in edits {
+        let mir = library(&[&entry(&[], &[])]).replacen(old, new, 1);
+        let why = translated(&mir, TABLE, HEADER).expect_err("it is refused");
+        let wanted = " is not a known function without parameters for types of MIR";
+        assert!(why.ends_with(wanted), "{new}: {why}");
+    }
 }
 
 #[test]
 fn blocks_and_exits_of_other_forms() {
-    let why = refusal(&[], &["(block (exit 0))"]);
+    let why = refusal(&[], &[r#""Block",{"Exit":0}"#]);
     assert_eq!(
         why,
-        "lib::entry: (block (exit 0)) is not a known block of MIR"
+        r#"lib::entry: {"Exit":0} is not a known statement in a block of MIR"#
     );
-    let why = refusal(&[], &["(block (loop (exit 2)))"]);
-    assert_eq!(why, "lib::entry: (exit 2) is not a known exit of MIR");
-    let through = "(block (loop (switch (copy (place 2 lnil)) (arm (lcons 1 lnil) (exit 1) (default skip)))))";
-    let why = refusal(&[], &[through]);
+    let why = refusal(&[], &[r#""Block","Loop",{"Exit":2}"#]);
+    assert_eq!(why, r#"lib::entry: {"Exit":2} is not a known exit of MIR"#);
+    let through = format!(
+        r#""Block","Loop",{{"Switch":[{},[[1]],true]}},{{"Exit":1}},"Skip""#,
+        copy(2, &[])
+    );
+    let why = refusal(&[], &[&through]);
     assert_eq!(
         why,
         "lib::entry: an exit from a loop through a switch, or from no loop"
     );
-    assert_eq!(refusal(&[], &["(exit 1)"]), why);
+    assert_eq!(refusal(&[], &[r#"{"Exit":1}"#]), why);
     assert_eq!(
-        refusal(&[], &["(exit 0)"]),
+        refusal(&[], &[r#"{"Exit":0}"#]),
         "lib::entry: the next turn of no loop"
     );
+    let why = refusal(
+        &[],
+        &[&format!(r#"{{"Switch":[{},[],false]}}"#, copy(2, &[]))],
+    );
+    assert!(why.ends_with(" is not a known switch of MIR"), "{why}");
+}
+
+/// The parts of a body stand in one list: a statement too few or too many in it is noticed.
+#[test]
+fn a_body_of_other_parts() {
+    let short = refusal(&[], &[&format!(r#"{{"If":{}}}"#, copy(4, &[]))]);
+    assert_eq!(short, "lib::entry: a body has no end");
+    let long = refusal(&[], &[r#""Skip","Skip""#]);
+    assert_eq!(long, r#"lib::entry: "Return" behind the end of the body"#);
 }
 
 #[test]
 fn a_call_of_what_is_not_there() {
-    let call = |callee: &str| format!("(call {callee} lnil (place 0 lnil))");
-    let why = refusal(&[], &[&call("(direct (fnRef \"lib::missing\"))")]);
+    let why = refusal(&[], &[&call("lib::missing", &[])]);
     assert_eq!(why, "the MIR has no function lib::missing");
-    let why = refusal(&[], &[&call("(indirect (copy (place 2 lnil)))")]);
+    let method = r#"{"Method":[{"Given":0},0,{"types":[],"dicts":[]}]}"#;
+    let fn_0 = r#"{"Fn":["lib::missing",{"types":[],"dicts":[]}]}"#;
+    let why = refusal(&[], &[&call("lib::missing", &[]).replace(fn_0, method)]);
     assert_eq!(
         why,
-        "lib::entry: (indirect (copy (place 2 lnil))) is not a known call of MIR"
+        format!("lib::entry: {method} is not a known call of MIR")
+    );
+    let generic = call("lib::entry", &[]).replace(r#""types":[]"#, r#""types":["Bool"]"#);
+    let why = refusal(&[], &[&generic]);
+    assert_eq!(
+        why,
+        r#"lib::entry: {"Fn":["lib::entry",{"types":["Bool"],"dicts":[]}]} is not a known call of MIR"#
     );
 }
 
 #[test]
 fn a_call_of_another_type() {
-    let helper = function(
-        "lib::helper",
-        1,
-        &list(&[
-            "(local (tyInt 8) valueLocal)",
-            "(local (tyInt 16) valueLocal)",
-        ]),
-        "return",
-    );
-    let call = |arguments: &str| {
-        entry(
-            &[],
-            &[&format!(
-                "(call (direct (fnRef \"lib::helper\")) {arguments} (place 0 lnil))"
-            )],
-        )
-    };
-    let why = |arguments: &str| {
-        translated(&program(&[&helper, &call(arguments)]), TABLE, HEADER)
-            .expect_err("it is refused")
+    let locals = [local(r#"{"Int":8}"#), local(r#"{"Int":16}"#)];
+    let helper = function("lib::helper", 1, &locals, r#""Return""#);
+    let why = |arguments: &[&str]| {
+        let entry = entry(&[], &[&call("lib::helper", arguments)]);
+        translated(&library(&[&helper, &entry]), TABLE, HEADER).expect_err("it is refused")
     };
     assert_eq!(
-        why("lnil"),
+        why(&[]),
         "lib::entry: lib::helper called as a function of another type"
     );
-    assert_eq!(
-        why("(lcons (copy (place 2 lnil)) lnil)"),
-        "lib::entry: u8 where u16 is wanted"
-    );
+    assert_eq!(why(&[&copy(2, &[])]), "lib::entry: u8 where u16 is wanted");
 }
 
 #[test]
 fn types_that_do_not_fit() {
     assert_eq!(
-        refused_value("(rvOpd (int 16 1))"),
+        refused_value(&opd(&int(16, 1))),
         "lib::entry: u16 stored as u8"
     );
     assert_eq!(
-        refused_value("(op2 (add unsigned) (copy (place 2 lnil)) (int 16 1))"),
+        refused_value(&op2(&unsigned("Add"), &copy(2, &[]), &int(16, 1))),
         "lib::entry: u8 + u16"
     );
     assert_eq!(
-        refused_value("(op2 (lt unsigned) true false)"),
+        refused_value(&op2(&unsigned("Lt"), r#""True""#, r#""False""#)),
         "lib::entry: bool < bool"
     );
     assert_eq!(
-        refused_value("(rvOpd (int 8 256))"),
-        "lib::entry: (int 8 256) has more bits than its width"
+        refused_value(&opd(&int(8, 256))),
+        r#"lib::entry: {"Int":{"width":8,"value":256}} has more bits than its width"#
     );
     assert_eq!(
-        refused_value("(rvOpd (copy (place 9 lnil)))"),
+        refused_value(&opd(&copy(9, &[]))),
         "lib::entry: there is no local 9"
     );
     assert_eq!(
-        refused_value("(rvOpd (copy (place 1 (lcons (field 2) lnil))))"),
+        refused_value(&opd(&copy(1, &[r#"{"Field":2}"#]))),
         "lib::entry: &[u8] has no field 2 here"
     );
 }
@@ -166,33 +226,28 @@ fn types_that_do_not_fit() {
 /// Behind a reference a number of 64 bits lies as C's size_t, which may have 32.
 #[test]
 fn sizes_behind_references() {
+    let to = place(6, &[r#"{"Deref":{"Int":64}}"#]);
     let why = refusal(
-        &["(tyRef erased mut (tyInt 64))"],
-        &["(assign (place 6 (lcons (deref (tyInt 64)) lnil)) (rvOpd (copy (place 3 lnil))))"],
+        &[&reference("Mut", r#"{"Int":64}"#)],
+        &[&store(&to, &opd(&copy(3, &[])))],
     );
     assert_eq!(
         why,
         "lib::entry: &mut u64: behind a reference C has size_t, which is only read"
     );
-    let why = refusal(&[], &["(assign (place 5 lnil) (addrOf (place 3 lnil)))"]);
+    let why = refusal(&[], &[&set(5, &address(3))]);
     assert_eq!(
         why,
         "lib::entry: the address of u64: behind a reference C has size_t"
     );
-    let sizes = "(tyArray (tyInt 64) (lenLit 2))";
-    let why = refusal(
-        &[sizes],
-        &["(assign (place 5 lnil) (addrOf (place 6 lnil)))"],
-    );
+    let sizes = array(r#"{"Int":64}"#, 2);
+    let why = refusal(&[&sizes], &[&set(5, &address(6))]);
     assert_eq!(
         why,
         "lib::entry: the address of [u64; 2]: behind a reference C has size_t"
     );
-    let pair = "(tyNamed (pair \"lib::Pair\" lnil))";
-    let why = refusal(
-        &[pair],
-        &["(assign (place 6 (lcons (field 1) lnil)) (rvOpd (copy (place 3 lnil))))"],
-    );
+    let to = place(6, &[r#"{"Field":1}"#]);
+    let why = refusal(&[PAIR], &[&store(&to, &opd(&copy(3, &[])))]);
     assert_eq!(
         why,
         "lib::entry: a store to v6.high, which is a size_t of C"
@@ -201,111 +256,129 @@ fn sizes_behind_references() {
 
 #[test]
 fn raw_pointers_of_two_types() {
-    let first = "(assign (place 5 lnil) (addrOf (place 2 lnil)))";
-    let second = "(assign (place 5 lnil) (addrOf (place 4 lnil)))";
     assert_eq!(
-        refusal(&[], &[first, second]),
+        refusal(&[], &[&set(5, &address(2)), &set(5, &address(4))]),
         "lib::entry: a raw pointer holds &mut u8 and &mut bool"
     );
 }
 
 #[test]
+fn constants_of_other_forms_that_are_lent() {
+    let to = |bits: u64| reference("Imm", &array(&format!(r#"{{"Int":{bits}}}"#), 2));
+    let why = |bits: u64, numbers: &str| {
+        refusal(
+            &[&to(bits)],
+            &lend(bits, numbers).each_ref().map(|it| it.as_str()),
+        )
+    };
+    assert_eq!(
+        why(64, "5,6"),
+        "lib::entry: a constant of u64 is lent: behind a reference C has size_t"
+    );
+    assert_eq!(
+        why(8, "5,256"),
+        r#"lib::entry: {"Ints":{"width":8,"values":[5,256]}} lent as [u8; 2]"#
+    );
+    assert_eq!(
+        why(8, "5"),
+        r#"lib::entry: {"Ints":{"width":8,"values":[5]}} lent as [u8; 2]"#
+    );
+    let [lent, read] = lend(8, "5,6");
+    let bool = lent.replace(r#"{"Ints":{"width":8,"values":[5,6]}}"#, r#"{"Bool":true}"#);
+    let why = refusal(&[&to(8)], &[&bool, &read]);
+    assert_eq!(
+        why,
+        r#"lib::entry: {"Bool":true} is not a known lent constant of MIR"#
+    );
+    let why = refusal(
+        &[&reference("Mut", &array(r#"{"Int":8}"#, 2))],
+        &[&lent, &read],
+    );
+    assert_eq!(why, "lib::entry: &[u8; 2] stored as &mut [u8; 2]");
+}
+
+#[test]
 fn a_type_declared_in_two_ways() {
-    let one = entry(&[], &[]);
-    let two = one
-        .replace("lib::entry", "lib::other")
-        .replace("(fields (tcons (tyInt 8)", "(fields (tcons (tyInt 16)");
-    let why = translated(&program(&[&one, &two]), TABLE, HEADER).expect_err("it is refused");
+    let one = entry(&[], &[&call("lib::other", &[&copy(1, &[])])]);
+    let two = entry(&[], &[]).replace("lib::entry", "lib::other").replace(
+        r#""shape":{"Fields":[{"Int":8}"#,
+        r#""shape":{"Fields":[{"Int":16}"#,
+    );
+    let why = translated(&library(&[&one, &two]), TABLE, HEADER).expect_err("it is refused");
     assert_eq!(why, "lib::other: lib::Pair is declared in two ways");
 }
 
 #[test]
 fn input_that_is_not_mir() {
     let why = |text: &str| translated(text, TABLE, HEADER).expect_err("it is refused");
+    assert_eq!(why(""), "JSON: no value: the end");
+    assert_eq!(why("{}"), "a library's MIR is a list of functions");
+    assert_eq!(why("[["), "JSON: no value: the end");
+    assert_eq!(why("[] x"), "x behind the end of the JSON");
+    assert_eq!(why("[\"lib"), "JSON: a text has no end");
+    assert_eq!(why("[1]"), "expected a name and a function");
+    assert_eq!(why("[[\"lib::entry\"]]"), "expected a name and a function");
     assert_eq!(
-        why(""),
-        "the input is not what `rt mir NAME` prints: program FUNCTIONS ENTRY"
+        why("[[\"lib::entry\", 1]]"),
+        "lib::entry: expected the keys lifetimes, outlives, params, generics, types, locals, body, not 1"
     );
-    assert_eq!(why("program (lcons"), "a parenthesis is not closed");
-    assert_eq!(why("program lnil) x"), "a parenthesis too many");
-    assert_eq!(why("program \"lnil x"), "a text has no end");
-    assert_eq!(
-        why("program (fnil) x"),
-        "expected a list of lcons, not (fnil)"
-    );
-}
-
-const CHOICE: &str = "(tyNamed (pair \"lib::Choice\" lnil))";
-
-#[test]
-fn aggregates_of_other_parts() {
-    let made = |parts: &str| {
-        refusal(
-            &[CHOICE],
-            &[
-                &format!("(assign (place 6 lnil) (aggregate {parts}))"),
-                READ_CHOICE,
-            ],
-        )
-    };
-    assert_eq!(
-        made("(lcons (int 8 2) lnil)"),
-        "lib::entry: lib::Choice has no variant 2"
-    );
-    assert_eq!(
-        made("(lcons (int 8 0) (lcons (int 16 7) lnil))"),
-        "lib::entry: 2 parts of lib::Choice, not 1"
-    );
-    assert_eq!(
-        made("(lcons (int 8 1) lnil)"),
-        "lib::entry: 1 parts of lib::Choice, not 2"
-    );
-    assert_eq!(
-        made("(lcons (copy (place 2 lnil)) lnil)"),
-        "lib::entry: lib::Choice of a variant that is not said"
-    );
-    assert_eq!(
-        made("lnil"),
-        "lib::entry: lib::Choice of a variant that is not said"
-    );
-    let why = refused_value("(aggregate lnil)");
-    assert_eq!(why, "lib::entry: a field of u8");
 }
 
 /// Copies the tag of the enum, so that what is stored in it is printed.
-const READ_CHOICE: &str =
-    "(assign (place 0 lnil) (rvOpd (copy (place 6 (lcons (variant 1) (lcons (field 0) lnil))))))";
+fn read_choice() -> String {
+    set(0, &opd(&copy(6, &[r#"{"Variant":1}"#, r#"{"Field":0}"#])))
+}
+
+#[test]
+fn aggregates_of_other_parts() {
+    let made = |parts: &[&str]| refusal(&[CHOICE], &[&set(6, &aggregate(parts)), &read_choice()]);
+    assert_eq!(
+        made(&[&int(8, 2)]),
+        "lib::entry: lib::Choice has no variant 2"
+    );
+    assert_eq!(
+        made(&[&int(8, 0), &int(16, 7)]),
+        "lib::entry: 2 parts of lib::Choice, not 1"
+    );
+    assert_eq!(
+        made(&[&int(8, 1)]),
+        "lib::entry: 1 parts of lib::Choice, not 2"
+    );
+    assert_eq!(
+        made(&[&copy(2, &[])]),
+        "lib::entry: lib::Choice of a variant that is not said"
+    );
+    assert_eq!(
+        made(&[]),
+        "lib::entry: lib::Choice of a variant that is not said"
+    );
+    let why = refused_value(&aggregate(&[]));
+    assert_eq!(why, "lib::entry: a field of u8");
+}
 
 #[test]
 fn a_variant_or_a_field_that_is_not_there() {
-    let read = |steps: &str| {
-        refusal(
-            &[CHOICE],
-            &[&format!(
-                "(assign (place 0 lnil) (rvOpd (copy (place 6 {steps}))))"
-            )],
-        )
-    };
-    let why = read("(lcons (variant 2) (lcons (field 0) lnil))");
+    let read = |steps: &[&str]| refusal(&[CHOICE], &[&set(0, &opd(&copy(6, steps)))]);
+    let why = read(&[r#"{"Variant":2}"#, r#"{"Field":0}"#]);
     assert_eq!(why, "lib::entry: lib::Choice has no variant 2");
-    let why = read("(lcons (variant 1) (lcons (field 2) lnil))");
+    let why = read(&[r#"{"Variant":1}"#, r#"{"Field":2}"#]);
     assert_eq!(why, "lib::entry: lib::Choice has no field 2 here");
     assert_eq!(
-        read("(lcons (field 0) lnil)"),
+        read(&[r#"{"Field":0}"#]),
         "lib::entry: a field of lib::Choice, an enum"
     );
     assert_eq!(
-        read("(lcons (variant 0) lnil)"),
+        read(&[r#"{"Variant":0}"#]),
         "lib::entry: a variant as a whole"
     );
 }
 
 #[test]
 fn a_unit_among_the_parameters() {
-    let locals = list(&["(local (tyInt 8) valueLocal)", "(local tyUnit valueLocal)"]);
-    let helper = function("lib::helper", 1, &locals, "return");
-    let call = "(call (direct (fnRef \"lib::helper\")) (lcons unit lnil) (place 0 lnil))";
-    let why = translated(&program(&[&helper, &entry(&[], &[call])]), TABLE, HEADER);
+    let locals = [local(r#"{"Int":8}"#), local(r#""Unit""#)];
+    let helper = function("lib::helper", 1, &locals, r#""Return""#);
+    let entry = entry(&[], &[&call("lib::helper", &[r#""Unit""#])]);
+    let why = translated(&library(&[&helper, &entry]), TABLE, HEADER);
     assert_eq!(
         why.expect_err("it is refused"),
         "lib::helper: a parameter of type ()"

@@ -1,51 +1,78 @@
-//! A function by hand in both forms, as `rt mir` prints it and as `rt goals` writes its term: they are the same, and an edit of either is noticed.
+//! A function by hand in both forms, as a library holds it and as `rt check --generated` writes its term: they are the same, and an edit of
+//! either is noticed.
 
+use crate::common::library;
 use std::fs;
 use std::path::{Path, PathBuf};
+use translate::read::Libraries;
 use translate::same::difference::difference;
-use translate::same::{printed, terms};
-use translate::sexp::parse;
+use translate::same::{library as held, terms};
 
-const PRINTED: &str = "program (lcons (fn-def \"lib::least\" (fnItem 0 lnil 2
-    (lcons (local (tyInt 64) valueLocal) (lcons (local (tyInt 64) valueLocal) (lcons (local (tyInt 64) valueLocal)
-    (lcons (local tyBool valueLocal) lnil))))
-    (seq (assign (place 3 lnil) (op2 (lt unsigned) (copy (place 1 lnil)) (copy (place 2 lnil))))
-    (seq (if (copy (place 3 lnil)) (seq (assign (place 0 lnil) (rvOpd (copy (place 1 lnil)))) return) skip)
-    (seq (assign (place 0 lnil) (op2 (add unsigned) (copy (place 2 lnil)) (int 64 2000))) return))))) lnil) (fnRef \"lib::least\")";
+const HELD: &str = r#"["lib::least",{"lifetimes":0,"outlives":[],"params":2,
+"generics":{"types":[],"outlives":[],"bounds":[],"method_of":null,"trait_lifetimes":0,"impls":[]},
+"types":[{"name":"lib::P","lifetimes":0,"bounds":[],"type_params":0,"const_params":[],"type_bounds":[],"owns":false,"is_cell":false,"shape":{"Fields":[{"Int":64}]},"is_tuple":false}],
+"locals":[{"ty":{"Int":64},"home":"ValueLocal"},{"ty":{"Int":64},"home":"ValueLocal"},{"ty":{"Int":64},"home":"ValueLocal"},{"ty":"Bool","home":"ValueLocal"},
+{"ty":{"Ref":["Erased","Imm",{"Array":[{"Int":8},{"Lit":2}]}]},"home":"ValueLocal"},{"ty":{"Named":[{"name":"lib::P","lifetimes":[]},[]]},"home":"ValueLocal"}],
+"body":["Seq",{"Assign":[{"local":3,"steps":[]},{"Op2":[{"Lt":"Unsigned"},{"Copy":{"local":1,"steps":[]}},{"Copy":{"local":2,"steps":[]}}]}]},
+"Seq",{"If":{"Copy":{"local":3,"steps":[]}}},"Seq",{"Assign":[{"local":0,"steps":[]},{"Opd":{"Copy":{"local":1,"steps":[]}}}]},"Return","Skip",
+"Seq",{"LendStatic":[{"local":4,"steps":[]},{"Array":[{"Int":8},{"Lit":2}]},{"Ints":{"width":8,"values":[5,6]}}]},
+"Seq",{"Switch":[{"Copy":{"local":1,"steps":[]}},[[7,8]],true]},{"Assign":[{"local":5,"steps":[]},{"Aggregate":[{"Copy":{"local":1,"steps":[{"Variant":0},{"Field":1}]}}]}]},"Skip",
+"Seq",{"Call":[{"Fn":["lib::least",{"types":[],"dicts":[]}]},[{"Int":{"width":64,"value":1}},{"Copy":{"local":2,"steps":[]}}],{"local":2,"steps":[]}]},
+"Seq",{"Assign":[{"local":0,"steps":[]},{"Op2":[{"Add":"Unsigned"},{"Copy":{"local":2,"steps":[]}},{"Int":{"width":64,"value":2000}}]}]},"Return"]}]"#;
 
 const CODE: &str = "pub mod Mir
-use Rattle·lib·proofs.proofs.least.Code.Mir as Mir'
-use Rattle·lib·proofs.proofs.least.Key
+-- the `use` lines below are this print's own: the module states none of them
+use Rattle.lib.proofs.least.Code.Mir as Mir'
+use Rattle.lib.specs.contracts.least.Key
 use mathlib.Core.List
+use mir.MapTy
+use prog.Wired
 
 abbrev pub function : Syntax.Fn
-function = Mir'.function
+function = MapTy.spell_fn Mir'.table Mir'.by_name
 
-abbrev pub members : Knot.Members
-members = List._∷_ (Key.name, function) List.[]
+unfoldable pub code : Wired.Code
+code = Wired.node (List.◌∷◌ (Key.symbol, function) List.[]) List.[] Wired.end
 ";
 
-const KEY: &str = "use prog.Routine
+const KEY: &str = "use mir.Syntax
 
-abbrev pub name : Routine.Name
-name = \"lib::least\"
+abbrev pub symbol : Syntax.Symbol
+symbol = \"lib::least\"
+
+abbrev pub name : Syntax.Callee
+name = Syntax.fn₀ symbol
 ";
 
-const MIR: &str = "use mathlib.Core.List
+const SYMBOL: &str = "pub use Rattle.lib.proofs.least.Code.{code}
+pub use Rattle.lib.specs.contracts.least.Key.{symbol, name}
+";
+
+const MIR: &str = "use Rattle.lib.proofs.least.Symbol
+use mathlib.Core.List
 use mir.Syntax
+use mir.Table
 
-abbrev pub locals : List.List Syntax.Local
-locals =
-    List._∷_
-    (Syntax.local (Syntax.tyInt Syntax.w64) Syntax.valueLocal)
-    (List._∷_
-    (Syntax.local (Syntax.tyInt Syntax.w64) Syntax.valueLocal)
-    (List._∷_
-    (Syntax.local (Syntax.tyInt Syntax.w64) Syntax.valueLocal)
-    (List._∷_ (Syntax.local Syntax.tyBool Syntax.valueLocal) List.[])))
+abbrev pub by_name-locals : List.List Syntax.Local
+by_name-locals =
+    List.◌∷◌
+    (Syntax.local (Syntax.ty_int Syntax.w64) Syntax.value_local)
+    (List.◌∷◌
+    (Syntax.local (Syntax.ty_int Syntax.w64) Syntax.value_local)
+    (List.◌∷◌
+    (Syntax.local (Syntax.ty_int Syntax.w64) Syntax.value_local)
+    (List.◌∷◌ (Syntax.local Syntax.ty_bool Syntax.value_local)
+    (List.◌∷◌
+    (Syntax.local
+    (Syntax.ty_ref Syntax.erased Syntax.imm (Syntax.ty_array (Syntax.ty_int Syntax.w8) 2))
+    Syntax.value_local)
+    (List.◌∷◌ (Syntax.local (Syntax.ty_named (
+      List.◌∷◌ 108 (List.◌∷◌ 105 (List.◌∷◌ 98 (List.◌∷◌ 58 (List.◌∷◌ 58 (List.◌∷◌ 80 List.[]))))),
+      List.[],
+    ) Syntax.tnil) Syntax.value_local) List.[])))))
 
-abbrev pub s-1 : Syntax.Body
-s-1 =
+abbrev pub by_name-s-1 : Syntax.Body
+by_name-s-1 =
     Syntax.assign
     (Syntax.place 3 List.[])
     (Syntax.op2
@@ -53,90 +80,166 @@ s-1 =
     (Syntax.copy (Syntax.place 1 List.[]))
     (Syntax.copy (Syntax.place 2 List.[])))
 
-abbrev pub s-2 : Syntax.Body
-s-2 =
+abbrev pub by_name-s-2 : Syntax.Body
+by_name-s-2 =
     Syntax.cond
     (Syntax.copy (Syntax.place 3 List.[]))
     (Syntax.seq
-    (Syntax.assign (Syntax.place 0 List.[]) (Syntax.rvOpd (Syntax.copy (Syntax.place 1 List.[]))))
+    (Syntax.assign (Syntax.place 0 List.[]) (Syntax.rv_opd (Syntax.copy (Syntax.place 1 List.[]))))
     Syntax.return)
     Syntax.skip
 
-abbrev pub s-3 : Syntax.Body
-s-3 =
+abbrev pub by_name-s-3 : Syntax.Body
+by_name-s-3 =
+    Syntax.lend_static
+    (Syntax.place 4 List.[])
+    (Syntax.ty_array (Syntax.ty_int Syntax.w8) 2)
+    (Syntax.c_ints Syntax.w8 (List.◌∷◌ 5 (List.◌∷◌ 6 List.[])))
+
+abbrev pub by_name-s-4 : Syntax.Body
+by_name-s-4 =
+    Syntax.switch
+    (Syntax.copy (Syntax.place 1 List.[]))
+    (Syntax.arm
+    (List.◌∷◌ 7 (List.◌∷◌ 8 List.[]))
+    (Syntax.assign
+    (Syntax.place 5 List.[])
+    (Syntax.aggregate
+    (List.◌∷◌
+    (Syntax.copy (Syntax.place 1 (List.◌∷◌ (Syntax.variant 0) (List.◌∷◌ (Syntax.field 1) List.[]))))
+    List.[])))
+    (Syntax.default Syntax.skip))
+
+abbrev pub by_name-s-5 : Syntax.Body
+by_name-s-5 =
+    Syntax.call
+    Symbol.name
+    (List.◌∷◌ (Syntax.int Syntax.w64 1) (List.◌∷◌ (Syntax.copy (Syntax.place 2 List.[])) List.[]))
+    (Syntax.place 2 List.[])
+
+abbrev pub by_name-s-6 : Syntax.Body
+by_name-s-6 =
     Syntax.seq
     (Syntax.assign
     (Syntax.place 0 List.[])
     (Syntax.op2
     (Syntax.add Syntax.unsigned)
     (Syntax.copy (Syntax.place 2 List.[]))
-    (Syntax.intBig Syntax.w64 2000)))
+    (Syntax.int_big Syntax.w64 2000)))
     Syntax.return
 
-abbrev pub function : Syntax.Fn
-function = record { lifetimes = 0; outlives = List.[]; params = 2; locals = locals; body = Syntax.seq s-1 (Syntax.seq s-2 s-3) }
+abbrev pub by_name : Syntax.Fn
+by_name = record {
+  lifetimes = 0;
+  outlives = List.[];
+  ty_params = List.[];
+  givens = 0;
+  params = 2;
+  locals = by_name-locals;
+  body =
+    Syntax.seq by_name-s-1
+    (Syntax.seq by_name-s-2
+    (Syntax.seq by_name-s-3 (Syntax.seq by_name-s-4 (Syntax.seq by_name-s-5 by_name-s-6))));
+}
+
+abbrev pub table : Table.Table
+table = List.◌∷◌ (
+  List.◌∷◌ 108 (List.◌∷◌ 105 (List.◌∷◌ 98 (List.◌∷◌ 58 (List.◌∷◌ 58 (List.◌∷◌ 80 List.[]))))),
+  List.[],
+  Table.fields (Syntax.tcons (Syntax.ty_int Syntax.w64) Syntax.tnil),
+) List.[]
 ";
 
-/// A folder of goals, gone with the test.
-struct Goals(PathBuf);
+/// A folder of terms, gone with the test.
+struct Terms(PathBuf);
 
-impl Goals {
-    fn new(test: &str, mir: &str) -> Goals {
-        let goals = Goals(std::env::temp_dir().join(format!("same-{test}-{}", std::process::id())));
-        let function = goals.0.join("lib/Rattle·lib·proofs/proofs/least");
-        fs::create_dir_all(function.join("Code")).expect("a folder is made");
-        for (name, text) in [
-            ("Code.antt", CODE),
-            ("Key.antt", KEY),
-            ("Code/Mir.antt", mir),
+impl Terms {
+    fn new(test: &str, mir: &str) -> Terms {
+        let terms = Terms(std::env::temp_dir().join(format!("same-{test}-{}", std::process::id())));
+        let proofs = "Rattle-lib-proofs/least";
+        for (file, text) in [
+            (format!("{proofs}/Code.antt"), CODE),
+            (format!("{proofs}/Symbol.antt"), SYMBOL),
+            (format!("{proofs}/Code/Mir.antt"), mir),
+            ("Rattle-lib-specs/contracts/least/Key.antt".to_string(), KEY),
         ] {
-            fs::write(function.join(name), text).expect("a file is written");
+            let file = terms.0.join(file);
+            let folder = file.parent().expect("it lies in a folder");
+            fs::create_dir_all(folder).expect("a folder is made");
+            fs::write(file, text).expect("a file is written");
         }
-        goals
+        terms
     }
 }
 
-impl Drop for Goals {
+impl Drop for Terms {
     fn drop(&mut self) {
         let _ = fs::remove_dir_all(&self.0);
     }
 }
 
 /// Where the two forms differ, or why they cannot be compared.
-fn compared(text: &str, goals: &Path) -> Result<Option<String>, String> {
-    let program = parse(text)?;
-    let functions = printed::functions(&program)?;
+fn compared(text: &str, terms: &Path) -> Result<Option<String>, String> {
+    let libraries = Libraries::new(&[library(&[text])])?;
+    let name = match text.contains("\"lib::most\",{\"lifetimes") {
+        true => "lib::most",
+        false => "lib::least",
+    };
+    let functions = libraries.reached(&[name.to_string()])?;
     let (name, function) = functions[0];
     Ok(difference(
-        &printed::code(function)?,
-        &terms::code(goals, name)?,
+        &held::code(function)?,
+        &terms::code(terms, name)?,
     ))
 }
 
 #[test]
 fn both_forms_are_the_same() {
-    let goals = Goals::new("alike", MIR);
-    assert_eq!(compared(PRINTED, &goals.0), Ok(None));
+    let terms = Terms::new("alike", MIR);
+    assert_eq!(compared(HELD, &terms.0), Ok(None));
 }
 
 #[test]
-fn an_edit_of_the_printed_form() {
-    let goals = Goals::new("printed", MIR);
+fn an_edit_of_the_library() {
+    let terms = Terms::new("held", MIR);
     let edits = [
-        ("(lt unsigned)", "(le unsigned)"),
-        ("(int 64 2000)", "(int 64 2001)"),
+        (r#"{"Lt":"Unsigned"}"#, r#"{"Le":"Unsigned"}"#),
+        (r#"{"Lt":"Unsigned"}"#, r#"{"Lt":"Signed"}"#),
+        (r#""value":2000"#, r#""value":2001"#),
         (
-            "(copy (place 1 lnil)) (copy (place 2 lnil))",
-            "(copy (place 2 lnil)) (copy (place 1 lnil))",
+            r#"{"local":1,"steps":[]}},{"#,
+            r#"{"local":2,"steps":[]}},{"#,
         ),
-        ("(local tyBool valueLocal)", "(local tyBool memorySlot)"),
-        ("(fnItem 0 lnil 2", "(fnItem 0 lnil 1"),
-        (" return) skip)", " skip) skip)"),
+        (
+            r#""Bool","home":"ValueLocal""#,
+            r#""Bool","home":"MemorySlot""#,
+        ),
+        (r#""params":2"#, r#""params":1"#),
+        (
+            r#""lifetimes":0,"outlives":[]"#,
+            r#""lifetimes":1,"outlives":[]"#,
+        ),
+        (
+            r#""lifetimes":0,"outlives":[]"#,
+            r#""lifetimes":0,"outlives":[[0,1]]"#,
+        ),
+        (r#""Return","Skip""#, r#""Skip","Skip""#),
+        (r#""values":[5,6]"#, r#""values":[5,7]"#),
+        (r#"[[7,8]],true]"#, r#"[[7,9]],true]"#),
+        (r#"{"Field":1}"#, r#"{"Field":2}"#),
+        (r#"{"Variant":0}"#, r#"{"Variant":1}"#),
+        (r#"{"Fields":[{"Int":64}]}"#, r#"{"Fields":[{"Int":32}]}"#),
+        (
+            r#"{"Fields":[{"Int":64}]}"#,
+            r#"{"Variants":[[{"Int":64}]]}"#,
+        ),
+        (r#"["Erased","Imm""#, r#"["Erased","Mut""#),
+        (r#""value":1}}"#, r#""value":0}}"#),
     ];
     for (old, new) in edits {
-        let edited = PRINTED.replacen(old, new, 1);
-        assert_ne!(edited, PRINTED, "{old} stands in the printed form");
-        let found = compared(&edited, &goals.0).expect("both are read");
+        let edited = HELD.replacen(old, new, 1);
+        assert_ne!(edited, HELD, "{old} stands in the library");
+        let found = compared(&edited, &terms.0).expect("both are read");
         assert!(
             found.is_some_and(|why| why.starts_with("differs at ")),
             "{old} by {new}"
@@ -150,27 +253,72 @@ fn an_edit_of_the_term() {
         ("Syntax.lt", "Syntax.le"),
         ("2000", "1999"),
         ("params = 2", "params = 3"),
+        ("givens = 0", "givens = 1"),
+        ("List.◌∷◌ 6", "List.◌∷◌ 7"),
+        (
+            "Symbol.name\n    (List.◌∷◌ (Syntax.int Syntax.w64 1)",
+            "Symbol.name\n    (List.◌∷◌ (Syntax.int Syntax.w32 1)",
+        ),
     ]
     .iter()
     .enumerate()
     {
-        let goals = Goals::new(&format!("term-{number}"), &MIR.replacen(old, new, 1));
-        let found = compared(PRINTED, &goals.0).expect("both are read");
+        let edited = MIR.replacen(old, new, 1);
+        assert_ne!(edited, MIR, "{old} stands in the term");
+        let terms = Terms::new(&format!("term-{number}"), &edited);
+        let found = compared(HELD, &terms.0).expect("both are read");
         assert!(found.is_some(), "{old} by {new}");
     }
 }
 
+/// A program of which the function is only a part, or another one, is not the function's.
+#[test]
+fn an_edit_of_the_program() {
+    let terms = Terms::new("program", MIR);
+    let code = terms.0.join("Rattle-lib-proofs/least/Code.antt");
+    let edits = [
+        (
+            "(Key.symbol, function) List.[]",
+            "(Key.symbol, function) (List.◌∷◌ (Key.symbol, function) List.[])",
+        ),
+        ("(Key.symbol, function)", "(\"lib::other\", function)"),
+        ("List.◌∷◌ (Key.symbol, function) List.[]", "List.[]"),
+    ];
+    for (old, new) in edits {
+        let edited = CODE.replacen(old, new, 1);
+        assert_ne!(edited, CODE, "{old} stands in the module");
+        fs::write(&code, edited).expect("a file is written");
+        let why = compared(HELD, &terms.0).expect_err("it is another program");
+        assert!(why.starts_with("the program must be it alone"), "{why}");
+    }
+    fs::write(&code, CODE.replacen("Wired.node", "Wired.and", 1)).expect("a file is written");
+    let why = compared(HELD, &terms.0).expect_err("it is no program");
+    assert_eq!(why, "`code` is Wired.and, not `Wired.node`");
+}
+
 #[test]
 fn what_is_not_known_is_an_error() {
-    let goals = Goals::new("unknown", &MIR.replacen("Syntax.skip", "Syntax.drop", 1));
-    let why = compared(PRINTED, &goals.0).expect_err("a form that is not known");
+    let terms = Terms::new("unknown", &MIR.replacen("Syntax.skip", "Syntax.drop", 1));
+    let why = compared(HELD, &terms.0).expect_err("a form that is not known");
     assert!(why.contains("drop"), "{why}");
-    let why = compared(
-        &PRINTED.replacen("(lt unsigned)", "(rol unsigned)", 1),
-        &goals.0,
+    let why = |old: &str, new: &str| {
+        compared(&HELD.replacen(old, new, 1), &terms.0).expect_err("it is not known")
+    };
+    assert!(why(r#""Lt""#, r#""Rol""#).contains("rol"));
+    assert!(why(r#""type_params":0"#, r#""type_params":1"#).contains("takes types"));
+    assert!(
+        why(r#""bounds":[],"method"#, r#""bounds":[],"extra":0,"method"#)
+            .contains("expected the keys")
     );
-    assert!(why.expect_err("a form that is not known").contains("rol"));
-    let why = compared(&PRINTED.replace("lib::least", "lib::most"), &goals.0);
+    assert!(why(r#""types":[],"dicts""#, r#""types":["Bool"],"dicts""#).contains("a call at types"));
+    assert!(why(
+        r#""Skip",
+"Seq""#,
+        r#""Skip","Skip",
+"Seq""#
+    )
+    .contains("behind the end of the body"));
+    let why = compared(&HELD.replace("lib::least", "lib::most"), &terms.0);
     assert!(why
         .expect_err("there is no such file")
         .contains("most/Code.antt"));

@@ -1,9 +1,13 @@
 //! Each form of MIR in C, by hand: what the compilers and the comparisons with the reference cannot tell apart is seen here.
 
-use crate::common::body_of;
+use crate::common::{
+    address, aggregate, array, body_of, call, cast, copy, entry, function, int, library, local,
+    op1, op2, opd, place, reference, set, store, translated, translated_together, unsigned, CHOICE,
+    HEADER, PAIR, TABLE,
+};
 
 /// Reads the u64, so that what is stored in it is printed.
-const READ_SIZE: &str = "(switch (copy (place 3 lnil)) (default skip))";
+const READ_SIZE: &str = r#"{"Switch":[{"Copy":{"local":3,"steps":[]}},[],true]},"Skip""#;
 
 /// Whether these statements are printed with all of the wanted lines among theirs.
 fn assert_prints(locals: &[&str], statements: &[&str], wanted: &[&str]) {
@@ -24,48 +28,59 @@ fn assert_ends(statements: &[&str], wanted: &[&str]) {
 
 #[test]
 fn operations_by_their_signs() {
-    let of_bytes = |word: &str| {
-        format!("(assign (place 0 lnil) (op2 {word} (copy (place 2 lnil)) (int 8 3)))")
-    };
+    let of_bytes = |word: &str| set(0, &op2(word, &copy(2, &[]), &int(8, 3)));
     let signs = [
-        ("(add unsigned)", "+"),
-        ("(sub unsigned)", "-"),
-        ("(mul unsigned)", "*"),
-        ("(div unsigned)", "/"),
-        ("(rem unsigned)", "%"),
-        ("or", "|"),
-        ("xor", "^"),
+        (unsigned("Add"), "+"),
+        (unsigned("Sub"), "-"),
+        (unsigned("Mul"), "*"),
+        (unsigned("Div"), "/"),
+        (unsigned("Rem"), "%"),
+        (r#""Or""#.to_string(), "|"),
+        (r#""Xor""#.to_string(), "^"),
     ];
     for (word, sign) in signs {
         let wanted = format!("result = (uint8_t)((uint32_t)v2 {sign} (uint32_t)3u);");
-        assert_prints(&[], &[&of_bytes(word)], &[&wanted]);
+        assert_prints(&[], &[&of_bytes(&word)], &[&wanted]);
     }
-    let test = |word: &str| {
-        format!("(assign (place 4 lnil) (op2 {word} (copy (place 2 lnil)) (int 8 3)))")
-    };
+    let test = |word: &str| set(4, &op2(word, &copy(2, &[]), &int(8, 3)));
     let tests = [
-        ("(lt unsigned)", "<"),
-        ("(le unsigned)", "<="),
-        ("eq", "=="),
-        ("ne", "!="),
+        (unsigned("Lt"), "<"),
+        (unsigned("Le"), "<="),
+        (r#""Eq""#.to_string(), "=="),
+        (r#""Ne""#.to_string(), "!="),
     ];
+    let read = format!(r#"{{"If":{}}},"Return","Skip""#, copy(4, &[]));
     for (word, sign) in tests {
         let wanted = format!("v4 = v2 {sign} 3u;");
-        assert_prints(
-            &[],
-            &[&test(word), "(if (copy (place 4 lnil)) return skip)"],
-            &[&wanted],
-        );
+        assert_prints(&[], &[&test(&word), &read], &[&wanted]);
     }
 }
 
 #[test]
+fn a_negation_and_the_branches_of_a_test() {
+    let not = set(4, &op1(r#""Not""#, &copy(4, &[])));
+    let zero = set(0, &opd(&int(8, 0)));
+    let one = set(0, &opd(&int(8, 1)));
+    let both = format!(r#"{{"If":{}}},{one},{zero}"#, copy(4, &[]));
+    let wanted = [
+        "v4 = !v4;",
+        "if (v4) {",
+        "result = 1u;",
+        "} else {",
+        "result = 0u;",
+        "}",
+        "return result;",
+    ];
+    assert_ends(&[&not, &both], &wanted);
+}
+
+#[test]
 fn a_constant_in_front_has_the_width_of_its_type() {
-    let front = "(assign (place 3 lnil) (op2 (sub unsigned) (int 64 9) (copy (place 3 lnil))))";
-    let behind = "(assign (place 3 lnil) (op2 (sub unsigned) (copy (place 3 lnil)) (int 64 9)))";
+    let front = set(3, &op2(&unsigned("Sub"), &int(64, 9), &copy(3, &[])));
+    let behind = set(3, &op2(&unsigned("Sub"), &copy(3, &[]), &int(64, 9)));
     assert_prints(
         &[],
-        &[front, behind],
+        &[&front, &behind],
         &["v3 = (usize)9u - v3;", "v3 = v3 - 9u;"],
     );
 }
@@ -73,9 +88,9 @@ fn a_constant_in_front_has_the_width_of_its_type() {
 /// A size behind a reference is widened before anything is computed with it.
 #[test]
 fn sizes_behind_references_are_widened() {
-    let at = "(copy (place 6 (lcons (deref (tyInt 64)) lnil)))";
-    let sum = format!("(assign (place 3 lnil) (op2 (add unsigned) {at} {at}))");
-    let sizes = "(tyRef (named 0) imm (tyInt 64))";
+    let at = copy(6, &[r#"{"Deref":{"Int":64}}"#]);
+    let sum = set(3, &op2(&unsigned("Add"), &at, &at));
+    let sizes = r#"{"Ref":[{"Named":0},"Imm",{"Int":64}]}"#;
     assert_prints(
         &[sizes],
         &[&sum, READ_SIZE],
@@ -86,74 +101,105 @@ fn sizes_behind_references_are_widened() {
 /// MIR moves a pointer by bytes, C by elements.
 #[test]
 fn pointers_move_by_elements() {
-    let moved = "(assign (place 5 lnil) (op2 offset (copy (place 6 lnil)) (copy (place 3 lnil))))";
-    let read = "(op1 (cast unsigned unsigned 8) (copy (place 5 (lcons (deref (tyInt 16)) lnil))))";
-    let read = format!("(assign (place 0 lnil) {read})");
-    let words = "(tyRef (named 0) imm (tyInt 16))";
+    let moved = set(5, &op2(r#""Offset""#, &copy(6, &[]), &copy(3, &[])));
+    let read = set(0, &cast(8, &copy(5, &[r#"{"Deref":{"Int":16}}"#])));
+    let words = r#"{"Ref":[{"Named":0},"Imm",{"Int":16}]}"#;
     assert_prints(
         &[words],
-        &[moved, &read],
+        &[&moved, &read],
         &["v5 = v6 + v3 / 2u;", "result = (uint8_t)*v5;"],
     );
-    let at = "(copy (place 1 (lcons (field 0) lnil)))";
-    let moved = format!("(assign (place 5 lnil) (op2 offset {at} (copy (place 3 lnil))))");
-    let read = "(assign (place 0 lnil) (rvOpd (copy (place 5 (lcons (deref (tyInt 8)) lnil)))))";
-    assert_prints(&[], &[&moved, read], &["v5 = v1.at + v3;", "result = *v5;"]);
+    let at = copy(1, &[r#"{"Field":0}"#]);
+    let moved = set(5, &op2(r#""Offset""#, &at, &copy(3, &[])));
+    let read = set(0, &opd(&copy(5, &[r#"{"Deref":{"Int":8}}"#])));
+    assert_prints(
+        &[],
+        &[&moved, &read],
+        &["v5 = v1.at + v3;", "result = *v5;"],
+    );
 }
 
 #[test]
 fn a_struct_of_the_header() {
-    let parts = "(lcons (copy (place 2 lnil)) (lcons (copy (place 3 lnil)) lnil))";
-    let whole = format!("(assign (place 6 lnil) (aggregate {parts}))");
-    let part = "(assign (place 3 lnil) (rvOpd (copy (place 6 (lcons (field 1) lnil)))))";
+    let whole = set(6, &aggregate(&[&copy(2, &[]), &copy(3, &[])]));
+    let part = set(3, &opd(&copy(6, &[r#"{"Field":1}"#])));
     let wanted = [
         "v6 = (host_pair){ .low = v2, .high = (size_t)v3 };",
         "v3 = (usize)v6.high;",
     ];
-    let pair = "(tyNamed (pair \"lib::Pair\" lnil))";
-    assert_prints(&[pair], &[&whole, part, READ_SIZE], &wanted);
+    assert_prints(&[PAIR], &[&whole, &part, READ_SIZE], &wanted);
 }
 
 #[test]
 fn an_enum_is_a_tag_and_a_union() {
-    let whole = "(assign (place 6 lnil) (aggregate (lcons (int 8 1) (lcons (int 16 7) lnil))))";
-    let seen =
-        |field: usize| format!("(copy (place 6 (lcons (variant 1) (lcons (field {field}) lnil))))");
-    let tag = format!("(assign (place 0 lnil) (rvOpd {}))", seen(0));
-    let held = format!(
-        "(assign (place 0 lnil) (op1 (cast unsigned unsigned 8) {}))",
-        seen(1)
-    );
+    let whole = set(6, &aggregate(&[&int(8, 1), &int(16, 7)]));
+    let seen = |field: usize| {
+        let field = format!(r#"{{"Field":{field}}}"#);
+        copy(6, &[r#"{"Variant":1}"#, &field])
+    };
+    let tag = set(0, &opd(&seen(0)));
+    let held = set(0, &cast(8, &seen(1)));
     let wanted = [
         "v6 = (lib__Choice){ .tag = 1u, .as.v1.f1 = 7u };",
         "result = v6.tag;",
         "result = (uint8_t)v6.as.v1.f1;",
     ];
-    let choice = "(tyNamed (pair \"lib::Choice\" lnil))";
-    assert_prints(&[choice], &[whole, &tag, &held], &wanted);
+    assert_prints(&[CHOICE], &[&whole, &tag, &held], &wanted);
 }
 
 #[test]
 fn arrays_in_place_and_their_elements() {
-    let fill = "(assign (place 6 lnil) (repeat (int 16 5) 3))";
-    let point = "(assign (place 5 lnil) (addrOf (place 6 lnil)))";
-    let store = "(assign (place 5 (lcons (deref (tyInt 16)) lnil)) (rvOpd (int 16 9)))";
+    let fill = set(6, &format!(r#"{{"Repeat":[{},{{"Lit":3}}]}}"#, int(16, 5)));
+    let point = set(5, &address(6));
+    let to = place(5, &[r#"{"Deref":{"Int":16}}"#]);
+    let store = store(&to, &opd(&int(16, 9)));
     let wanted = [
         "v6 = (array_u16_3){ { 5u, 5u, 5u } };",
         "v5 = v6.at;",
         "*v5 = 9u;",
     ];
-    assert_prints(
-        &["(tyArray (tyInt 16) (lenLit 3))"],
-        &[fill, point, store],
-        &wanted,
-    );
+    let three = array(r#"{"Int":16}"#, 3);
+    assert_prints(&[&three], &[&fill, &point, &store], &wanted);
 }
 
-/// `exit 0` is the next turn, `exit 1` the end of the loop.
+/// Lends an array of two numbers of so many bits to the local 6, and reads the first.
+pub fn lend(bits: u64, numbers: &str) -> [String; 2] {
+    let (to, of) = (place(6, &[]), array(&format!(r#"{{"Int":{bits}}}"#), 2));
+    let constant = format!(r#"{{"Ints":{{"width":{bits},"values":[{numbers}]}}}}"#);
+    let first = copy(6, &[&format!(r#"{{"Deref":{{"Int":{bits}}}}}"#)]);
+    let lent = format!(r#"{{"LendStatic":[{to},{of},{constant}]}}"#);
+    [lent, set(0, &cast(8, &first))]
+}
+
+/// A constant that is lent lies in memory that is never written; one that is lent twice lies there once.
+#[test]
+fn constants_that_are_lent() {
+    let ([one, read], [other, _]) = (lend(16, "5,300"), lend(16, "5,301"));
+    let to = reference("Imm", &array(r#"{"Int":16}"#, 2));
+    let lines = body_of(&[&to], &[&one, &read, &other, &read, &one, &read]);
+    let wanted = [
+        "(void)v1;",
+        "const uint16_t *v6;",
+        "static const uint16_t lent1[2] = { 5u, 300u };",
+        "static const uint16_t lent2[2] = { 5u, 301u };",
+        "v6 = lent1;",
+        "result = (uint8_t)*v6;",
+        "v6 = lent2;",
+        "result = (uint8_t)*v6;",
+        "v6 = lent1;",
+        "result = (uint8_t)*v6;",
+        "return result;",
+    ];
+    assert_eq!(lines, wanted);
+}
+
+/// `Exit 0` is the next turn, `Exit 1` the end of the loop.
 #[test]
 fn loops() {
-    let turn = "(block (loop (seq (if (copy (place 4 lnil)) skip (exit 1)) (exit 0))))";
+    let turn = format!(
+        r#""Block","Loop","Seq",{{"If":{}}},"Skip",{{"Exit":1}},{{"Exit":0}}"#,
+        copy(4, &[])
+    );
     let wanted = [
         "for (;;) {",
         "if (!v4) {",
@@ -163,15 +209,14 @@ fn loops() {
         "}",
         "return result;",
     ];
-    assert_ends(&[turn], &wanted);
+    assert_ends(&[&turn], &wanted);
 }
 
 /// With no default the last arm takes what cannot come up; an arm that returns needs no break.
 #[test]
 fn switches() {
-    let first = "(assign (place 0 lnil) (rvOpd (int 8 4)))";
-    let arms =
-        format!("(arm (lcons 1 (lcons 2 lnil)) {first} (arm (lcons 3 lnil) return noDefault))");
+    let first = set(0, &opd(&int(8, 4)));
+    let on = copy(2, &[]);
     let wanted = [
         "switch (v2) {",
         "case 1u:",
@@ -184,8 +229,34 @@ fn switches() {
         "}",
         "return result;",
     ];
-    assert_ends(
-        &[&format!("(switch (copy (place 2 lnil)) {arms})")],
-        &wanted,
-    );
+    let without = format!(r#"{{"Switch":[{on},[[1,2],[3]],false]}},{first},"Return""#);
+    assert_ends(&[&without], &wanted);
+    let wanted = [
+        "switch (v2) {",
+        "case 7u:",
+        "return result;",
+        "default:",
+        "result = 4u;",
+        "break;",
+        "}",
+        "return result;",
+    ];
+    let with = format!(r#"{{"Switch":[{on},[[7]],true]}},"Return",{first}"#);
+    assert_ends(&[&with], &wanted);
+}
+
+/// What is called may stand in another library, and what nothing calls is not read.
+#[test]
+fn functions_of_several_libraries() {
+    let byte = local(r#"{"Int":8}"#);
+    let own = library(&[&entry(&[], &[&call("low::one", &[&copy(2, &[])])])]);
+    let one = function("low::one", 1, &[byte.clone(), byte.clone()], r#""Return""#);
+    let never = function("low::never", 1, &[byte.clone(), byte], r#""Strange""#);
+    let text = translated_together(&[library(&[&never, &one]), own], TABLE, HEADER);
+    let text = text.expect("it is translated");
+    assert!(text.contains("    result = low__one(v2);\n"), "{text}");
+    assert!(!text.contains("never"), "{text}");
+    let twice = library(&[&one, &one]);
+    let why = translated(&twice, TABLE, HEADER).expect_err("it is refused");
+    assert_eq!(why, "two functions are named low::one");
 }
