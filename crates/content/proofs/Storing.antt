@@ -12,7 +12,8 @@ use denote.Enum.Declared.{tag_of}
 use lib.Dec.{eqb, ltb, leb}
 use lib.ListN.{length, get_or, drop}
 use Rattle.rules.specs.declared.Slot.{Slot}
-use Rattle.rules.specs.Basic.{if◌then◌else◌, among, rising_from, is_some}
+use Rattle.std.specs.Prelude.{if◌then◌else◌}
+use Rattle.rules.specs.Basic.{among, rising_from, is_some}
 use Rattle.rules.specs.Expression.{expression, read_expression, is_state, may_become}
 use Rattle.rules.specs.Object.{Object}
 use Rattle.rules.specs.Metadata.{Field, field, sent_fields, field_allowed, fields_allowed, metadata_allowed}

@@ -18,7 +18,8 @@ use Rattle.rules.specs.declared.Action.TheVariants.{GetData, GetMetadata, Write,
 use Rattle.rules.specs.declared.Row.{Row}
 use Rattle.rules.specs.declared.Row.TheVariants.{OnObject, OpenApplication, CloseApplication, Unknown}
 use Rattle.rules.specs.declared.Verdict.TheVariants.{Accepted}
-use Rattle.rules.specs.Basic.{if◌then◌else◌, all, or_else}
+use Rattle.std.specs.Prelude.{if◌then◌else◌}
+use Rattle.rules.specs.Basic.{all, or_else}
 use Rattle.rules.specs.Command.{Line, table_line, command_table, no_line, line_in, line_of, cmd, param, row, is_unknown, object_number, sent_body, sent_number}
 use Rattle.rules.specs.Response.{done_response, refused_response, put_in_front}
 use Rattle.rules.specs.Object.{Object, is, is_counter, with_content}
@@ -90,7 +91,7 @@ elsewhere n c h = (rw h (by (eqb (cmd c) 0x02) (eqb (param c) 0x04)), rw h (by (
 
 -- the queue after a command that appends, or acknowledges
 abbrev pub after_command : Bool → Bool → List ℕ → FareQueue → FareQueue
-after_command a k c q = if a then appended (sent_body c) q else if k then acknowledged (sent_number c) q else q
+after_command a k c q = if a then appended (sent_body c) q else (if k then acknowledged (sent_number c) q else q)
 
 -- a queue in a store -------------------------------------------------------------------------------------------------------
 

@@ -11,7 +11,8 @@ use types.Run.{OneOf}
 use lib.Dec.{eqb, ltb}
 use lib.ListN.{length, take}
 use lib.Seq.{length-take-le}
-use Rattle.rules.specs.Basic.{if◌then◌else◌, little_endian_at}
+use Rattle.std.specs.Prelude.{if◌then◌else◌}
+use Rattle.rules.specs.Basic.{little_endian_at}
 use Rattle.frames.specs.declared.BodyLength.{BodyLength}
 use Rattle.frames.specs.declared.Kind.{Kind}
 use Rattle.frames.specs.declared.NamedKind.{NamedKind}
