@@ -1,8 +1,8 @@
 -- A fare queue over a run of any commands: the fares acknowledged and then those present are the fares accepted, in order, each once, numbered by
 -- ones; and a fare that was accepted is present until it is acknowledged.
 use Prim.Native.Nat.{ℕ, zero, suc, ◌+◌, ◌-◌, ◌≤◌, ◌<◌}
-use mathlib.Core.Bool.{Bool, true, false, ◌&&◌, false≢true}
-use mathlib.Core.List.{List, [], ◌∷◌, ◌++◌, append_assoc, map, map-append}
+use mathlib.Core.Bool.{Bool, true, false, ◌&&◌}
+use mathlib.Core.List.{List, [], ◌∷◌, ◌++◌, append_assoc, map-append}
 use mathlib.Core.Logic.{◌⊎◌, inl, inr}
 use mathlib.Core.Option.{some}
 use mathlib.Core.Path.{◌≡◌, refl, sym, ap, ◌∙◌}
@@ -23,7 +23,7 @@ use Rattle.demands.specs.Queues.{stored_queue, present_fares, appends, acknowled
 use Rattle.demands.specs.Queues.{numbers_from, numbers_of, QueueKept, Among, Acknowledged, NeverLost}
 use Rattle.laws.proofs.Tests.{by_test, and_left, and_both}
 use Rattle.laws.proofs.QueueChanges.{allowed, numbers_parts, present_between, up_to_past}
-use Rattle.demands.proofs.QueueSteps.{after_command, Holding, holding, allowed_there, QueueAfter, step_queue}
+use Rattle.demands.proofs.QueueSteps.{after_command, holding, allowed_there, QueueAfter, step_queue}
 
 -- numbers by ones ----------------------------------------------------------------------------------------------------------
 

@@ -29,7 +29,7 @@ use Rattle.laws.proofs.Tests.{if_by, and_left, and_right, at_place}
 use Rattle.laws.proofs.Expressions.{expression_read}
 use Rattle.laws.proofs.Facts.{allowed, allowed_by}
 use Rattle.laws.proofs.Queues.{queue_size, queue_length, queue_of_bytes, sound_layout}
-use Rattle.laws.proofs.QueueChanges.{Allowed, allowed as queue_facts, appended_allowed, appended_size, acknowledged_allowed, acknowledged_size}
+use Rattle.laws.proofs.QueueChanges.{allowed as queue_facts, appended_allowed, appended_size, acknowledged_allowed, acknowledged_size}
 use Rattle.laws.proofs.Verdicts.{passed}
 use Rattle.laws.proofs.Puts.{put_used}
 
