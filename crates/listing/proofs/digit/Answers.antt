@@ -1,6 +1,5 @@
 -- `digit`: below ten, and from ten on.
 use Rattle.listing.proofs.Digits.{low_digit, high_digit}
-use borrow.Author.Rules.{rules}
 use Rattle.listing.proofs.digit.Goals as goal
 
 pub returns-then-n-lt10 : goal.returns-then-n-lt10

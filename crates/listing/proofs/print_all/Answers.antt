@@ -1,6 +1,5 @@
 -- `print_all`: too long, or the lines from the factory store and the fresh session.
 use Rattle.listing.proofs.Lines.{shown, long_printed, lines_printed}
-use borrow.Author.Rules.{rules}
 use Rattle.listing.proofs.print_all.Goals as goal
 
 pub returns-then-input-gt-LONGEST : goal.returns-then-input-gt-LONGEST

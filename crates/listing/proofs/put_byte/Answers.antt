@@ -1,6 +1,5 @@
 -- `put_byte`: the byte fits, or the output ends here.
 use Rattle.listing.proofs.Texts.{byte_fits, byte_past}
-use borrow.Author.Rules.{rules}
 use Rattle.listing.proofs.put_byte.Goals as goal
 
 pub returns-then-at-output : goal.returns-then-at-output

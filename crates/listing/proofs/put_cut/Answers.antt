@@ -1,6 +1,5 @@
 -- `put_cut`: the text in ASCII.
 use Rattle.listing.proofs.Lines.{cut_put}
-use borrow.Author.Rules.{rules}
 use Rattle.listing.proofs.put_cut.Goals as goal
 
 pub returns : goal.returns

@@ -1,12 +1,8 @@
 -- `put_hex`: what is left is the digits of the bytes not yet passed.
-use Prim.Native.Nat.{◌≤◌, ◌-◌}
-use mathlib.Core.Path.{◌≡◌, refl}
+use mathlib.Core.Path.{refl}
 use native.Mathlib.Omega.{arith}
-use lib.ListN.{length, drop}
-use Rattle.rules.specs.Program.{upper_hex}
-use Rattle.listing.proofs.Texts.{Onward, onward_start}
+use Rattle.listing.proofs.Texts.{onward_start}
 use Rattle.listing.proofs.Digits.{hex_on, hex_end}
-use borrow.Author.Rules.{rules}
 use Rattle.listing.proofs.put_hex.Goals as goal
 
 pub loop-i-init : goal.loop-i-init

@@ -1,11 +1,8 @@
 use Prim.Native.Nat.{◌≤◌, ◌-◌}
-use mathlib.Core.Path.{◌≡◌, refl}
-use native.Mathlib.Omega.{arith}
+use mathlib.Core.Path.{◌≡◌}
 use lib.ListN.{length, drop}
 use Rattle.rules.specs.Program.{upper_hex}
-use Rattle.listing.proofs.Texts.{Onward, onward_start}
-use Rattle.listing.proofs.Digits.{hex_on, hex_end}
-use borrow.Author.Rules.{rules}
+use Rattle.listing.proofs.Texts.{Onward}
 use Rattle.listing.proofs.put_hex.Given as goal
 
 abbrev pub invariant-loop-i : goal.invariant-loop-i

@@ -1,6 +1,5 @@
 -- `put_line`: outcome, a space, the response, 0A.
 use Rattle.listing.proofs.Lines.{outcome_small, line_put, line_store, line_session}
-use borrow.Author.Rules.{rules}
 use Rattle.listing.proofs.put_line.Goals as goal
 
 pub digit-requires : goal.digit-requires

@@ -1,12 +1,8 @@
 -- `put_lines`: what is left is the lines of the commands not yet carried out.
-use Prim.Native.Nat.{◌≤◌, ◌-◌}
-use mathlib.Core.Path.{◌≡◌, refl}
+use mathlib.Core.Path.{refl}
 use native.Mathlib.Omega.{arith}
-use lib.ListN.{length, drop}
-use Rattle.rules.specs.Program.{lines}
-use Rattle.listing.proofs.Texts.{Onward, onward_start}
-use Rattle.listing.proofs.Lines.{lines_of, lines_on, length_cut, lines_cut, lines_end}
-use borrow.Author.Rules.{rules}
+use Rattle.listing.proofs.Texts.{onward_start}
+use Rattle.listing.proofs.Lines.{lines_on, length_cut, lines_cut, lines_end}
 use Rattle.listing.proofs.put_lines.Goals as goal
 
 pub loop-at-init : goal.loop-at-init

@@ -1,11 +1,9 @@
 use Prim.Native.Nat.{◌≤◌, ◌-◌}
-use mathlib.Core.Path.{◌≡◌, refl}
-use native.Mathlib.Omega.{arith}
+use mathlib.Core.Path.{◌≡◌}
 use lib.ListN.{length, drop}
 use Rattle.rules.specs.Program.{lines}
-use Rattle.listing.proofs.Texts.{Onward, onward_start}
-use Rattle.listing.proofs.Lines.{lines_of, lines_on, length_cut, lines_cut, lines_end}
-use borrow.Author.Rules.{rules}
+use Rattle.listing.proofs.Texts.{Onward}
+use Rattle.listing.proofs.Lines.{lines_of}
 use Rattle.listing.proofs.put_lines.Given as goal
 
 abbrev pub invariant-loop-at : goal.invariant-loop-at

@@ -1,6 +1,5 @@
 -- `put_pair`: two digits, one after the other.
 use Rattle.listing.proofs.Digits.{pair_put}
-use borrow.Author.Rules.{rules}
 use Rattle.listing.proofs.put_pair.Goals as goal
 
 pub returns : goal.returns

@@ -2,7 +2,6 @@
 use native.Mathlib.Omega.{arith}
 use lib.ListN.{length-take}
 use Rattle.listing.proofs.Lines.{response_put}
-use borrow.Author.Rules.{rules}
 use Rattle.listing.proofs.put_response.Goals as goal
 
 pub slice_bounds-put_hex-end : goal.slice_bounds-put_hex-end

@@ -2,7 +2,6 @@
 use native.Mathlib.Omega.{arith}
 use lib.ListN.{length-take}
 use Rattle.listing.proofs.Texts.{text_put}
-use borrow.Author.Rules.{rules}
 use Rattle.listing.proofs.put_text.Goals as goal
 
 pub slice_bounds-put-end : goal.slice_bounds-put-end
