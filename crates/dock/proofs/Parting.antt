@@ -20,7 +20,6 @@ use Rattle.frames.specs.declared.Step.TheVariants.{Whole, NotYet, Stopped}
 use Rattle.frames.specs.Frames.{around, longest, judged_by_head, judged}
 use denote.Enum.Declared.{tag_of}
 use types.Run.{OneOf}
-use mathlib.Core.Logic.{inl, inr}
 use Rattle.frames.specs.contracts.Step.{the_type}
 use Rattle.dock.specs.declared.Stream.{Stream}
 use Rattle.dock.specs.declared.Stream.TheVariants.{Collecting, Stopped as Stays}
