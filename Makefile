@@ -7,7 +7,7 @@ quietly = log=$$(mktemp); $(1) >$$log 2>&1 || { cat $$log; rm -f $$log; exit 1; 
 # A validator's morning by the tool: each command with its response, after a comparison with the proved program; then a counter's day, a ticket of
 # three trips, and a fare queue's day.
 demo:
-	@tools/prove check bench
+	@tools/prove bench
 	@$(MAKE) --no-print-directory tool
 	@examples/demo
 
@@ -17,12 +17,12 @@ test:
 
 # What firmware links, with include/element.h.
 library:
-	@tools/prove staticlib firmware
+	@tools/prove firmware
 	@echo target/staticlib/libfirmware.a
 
 # The library as C99 for other controllers, from the MIR that is proved: port/element.c and port/dock.c.
 c:
-	@tools/prove staticlib firmware
+	@tools/prove firmware
 	@port/make
 	@echo port/element.c port/dock.c
 

@@ -15,7 +15,8 @@ use Rattle.rules.specs.declared.Action.TheVariants.{Write, SetMetadata}
 use Rattle.rules.specs.declared.Kind.TheVariants.{Queue}
 use Rattle.rules.specs.declared.Slot.{Slot}
 use Rattle.rules.specs.declared.Slot.TheVariants.{Change}
-use Rattle.rules.specs.Basic.{if◌then◌else◌, is_some}
+use Rattle.std.specs.Prelude.{if◌then◌else◌}
+use Rattle.rules.specs.Basic.{is_some}
 use Rattle.rules.specs.Expression.{Condition, Group, just, ◌and◌, Groups, only, ◌or◌, Expression, always, never, when, slot_size}
 use Rattle.rules.specs.Expression.{condition_bytes, group_bytes, groups_bytes, expression_bytes, read_expression, expression}
 use Rattle.rules.specs.Object.{expression_in, is, of_session}

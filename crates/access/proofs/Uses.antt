@@ -13,7 +13,8 @@ use Rattle.rules.specs.declared.Kind.TheVariants.{Counter}
 use Rattle.rules.specs.declared.Direction.TheVariants.{Up}
 use Rattle.rules.specs.declared.Found.{Found}
 use Rattle.rules.specs.declared.Found.TheVariants.{At, Nothing}
-use Rattle.rules.specs.Basic.{if◌then◌else◌, is_some, or_else, big_endian_at}
+use Rattle.std.specs.Prelude.{if◌then◌else◌}
+use Rattle.rules.specs.Basic.{is_some, or_else, big_endian_at}
 use Rattle.rules.specs.Expression.{names_counter, counter_number}
 use Rattle.rules.specs.Object.{is, is_counter, direction}
 use Rattle.rules.specs.Layout.{unpack, find, found}
@@ -30,7 +31,7 @@ use Rattle.store.proofs.Placing.{nowhere, finds_it, stored_there}
 -- `state_holds`; x is the state that the call gave
 pub state_by : (v : Seen) (l i x : ℕ) (s : List ℕ) (r : Bool) → x ≡ present v l (get_or s i 0) →
     r ≡ (if eqb (get_or s (i + 1) 0) 0xFA then eqb x (get_or s (i + 2) 0) else
-    if eqb (get_or s (i + 1) 0) 0xFB then ltb (get_or s (i + 2) 0) x else ltb x (get_or s (i + 2) 0)) →
+    (if eqb (get_or s (i + 1) 0) 0xFB then ltb (get_or s (i + 2) 0) x else ltb x (get_or s (i + 2) 0))) →
     r ≡ state_holds v l (condition_at i s)
 unfolding state_holds condition_at
 state_by v l i x s r e f = rw e at f

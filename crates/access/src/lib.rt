@@ -1,10 +1,10 @@
 // Access: which expression an action asks of a found record, whether it is granted, and which counters that uses up.
 #![tactic(auto)]
 
-ghost use Rattle.std.specs.Prelude.{◌≡◌, true, ◌&&◌, [], ◌∷◌, ◌++◌, ◌+◌, ◌≤◌, ◌<◌, length, drop};
+ghost use Rattle.std.specs.Prelude.{◌≡◌, true, ◌&&◌, [], ◌∷◌, ◌++◌, ◌+◌, ◌≤◌, ◌<◌, length, drop, if◌then◌else◌};
 ghost use Rattle.std.proofs.Math.Option.{some};
 ghost use Rattle.rules.specs.declared.Action.TheVariants.{Write};
-ghost use Rattle.rules.specs.Basic.{if◌then◌else◌, is_some, or_else};
+ghost use Rattle.rules.specs.Basic.{is_some, or_else};
 ghost use Rattle.rules.specs.Expression.{slot_size, most_conditions, expression, read_expression};
 ghost use Rattle.rules.specs.Object.{expression_in};
 ghost use Rattle.rules.specs.Layout.{unpack, find};

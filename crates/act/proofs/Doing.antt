@@ -11,7 +11,7 @@ use lib.Seq.{get_or-drop}
 use Rattle.rules.specs.declared.Session.{Session}
 use Rattle.rules.specs.declared.Action.{Action}
 use Rattle.rules.specs.declared.Action.TheVariants.{GetData, GetMetadata, Write, SetMetadata, Count, Append, Acknowledge}
-use Rattle.rules.specs.Basic.{if◌then◌else◌}
+use Rattle.std.specs.Prelude.{if◌then◌else◌}
 use Rattle.rules.specs.Command.{offset, asked_length, sent_data, step_byte, sent_metadata, sent_body, sent_number}
 use Rattle.rules.specs.Response.{done_response, put_in_front}
 use Rattle.rules.specs.Object.{Object, used, of_session, is_counter, with_content}

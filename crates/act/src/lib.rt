@@ -1,8 +1,7 @@
 // What an accepted action does, at an object of the session and at a found record.
 #![tactic(auto)]
 
-ghost use Rattle.std.specs.Prelude.{◌≡◌, ◌&&◌, [], ◌∷◌, ◌+◌, ◌≤◌, eqb, leb, length, get_or};
-ghost use Rattle.rules.specs.Basic.{if◌then◌else◌};
+ghost use Rattle.std.specs.Prelude.{◌≡◌, ◌&&◌, [], ◌∷◌, ◌+◌, ◌≤◌, eqb, leb, length, get_or, if◌then◌else◌};
 ghost use Rattle.rules.specs.Command.{offset};
 ghost use Rattle.rules.specs.Object.{used};
 ghost use Rattle.rules.specs.Session.{with_error, with_state};

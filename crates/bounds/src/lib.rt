@@ -1,6 +1,7 @@
 // The steps 11 and 13 in numbers: bytes within a limit, how many a read shows, whether a response fits the room. Sums could wrap, so that
 // differences are taken.
 #![tactic(auto)]
+
 ghost use Rattle.std.specs.Prelude.{◌≡◌, not, ◌+◌, ◌-◌, min, leb, ltb};
 ghost use Rattle.rules.specs.declared.Refusal.TheVariants.{BoundaryExceeded};
 ghost use Rattle.rules.specs.Chain.{◌refused◌or◌};

@@ -7,7 +7,8 @@ use borrow.Author.Tests.{ne_eqb}
 use lib.Dec.{eqb}
 use Rattle.rules.specs.declared.Row.{Row}
 use Rattle.rules.specs.declared.Row.TheVariants.{OnObject, OpenApplication, CloseApplication, Unknown}
-use Rattle.rules.specs.Basic.{if◌then◌else◌, same}
+use Rattle.std.specs.Prelude.{if◌then◌else◌}
+use Rattle.rules.specs.Basic.{same}
 use Rattle.rules.specs.Command.{Line, anything, identifier, table_line, command_table, no_line, line_in, line_of, cmd, param, row}
 use Rattle.laws.proofs.Rows.{every_line}
 use Rattle.command.specs.Table.{row_in, session_row, row_sizes}

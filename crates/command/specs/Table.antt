@@ -1,11 +1,10 @@
 -- What the command table says of each row, and the row of a Cmd and a Param.
-use Rattle.std.specs.Prelude.{ℕ, ◌+◌, ◌≤◌, true, ◌&&◌, List, [], ◌∷◌, ◌≡◌, eqb, length}
+use Rattle.std.specs.Prelude.{ℕ, ◌+◌, ◌≤◌, true, ◌&&◌, List, [], ◌∷◌, ◌≡◌, eqb, length, if◌then◌else◌}
 use Rattle.rules.specs.declared.Action.{Action}
 use Rattle.rules.specs.declared.Action.TheVariants.{GetData, GetMetadata, Write, EraseAndWrite, SetMetadata, Count, Append, Acknowledge}
 use Rattle.rules.specs.declared.Row.{Row}
 use Rattle.rules.specs.declared.Row.TheVariants.{OnObject, OpenApplication, CloseApplication, Unknown}
 use Rattle.rules.specs.declared.Sizes.{Sizes}
-use Rattle.rules.specs.Basic.{if◌then◌else◌}
 use Rattle.rules.specs.Command.{Line, between, exactly, at_least, sent_body}
 use Rattle.rules.specs.Queue.{body_allowed}
 
@@ -17,8 +16,8 @@ row_in (l ∷ ls) c p = let rest = row_in ls c p in if eqb c l.cmd && eqb p l.pa
 unfoldable pub session_row : ℕ → ℕ → Row
 session_row c p =
     if eqb c 0x70 && eqb p 0x00 then OpenApplication else
-    if eqb c 0x71 && eqb p 0x00 then CloseApplication else
-    Unknown
+    (if eqb c 0x71 && eqb p 0x00 then CloseApplication else
+    Unknown)
 
 -- how many bytes InData may have
 abbrev pub action_sizes : Action → Sizes

@@ -10,7 +10,8 @@ use types.Run.{OneOf}
 use lib.Dec.{eqb, ltb}
 use lib.ListN.{length, take, drop}
 use lib.Seq.{take-append_seam, drop-append_seam}
-use Rattle.rules.specs.Basic.{if◌then◌else◌, among, rising, rising_from}
+use Rattle.std.specs.Prelude.{if◌then◌else◌}
+use Rattle.rules.specs.Basic.{among, rising, rising_from}
 use Rattle.rules.specs.Metadata.{Field, field, fields_bytes, field_allowed, fields_allowed}
 use Rattle.laws.proofs.Tests.{and_left, and_right}
 use Rattle.record.specs.Records.{part}

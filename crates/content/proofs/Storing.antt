@@ -1,18 +1,17 @@
 -- Fields stored one after the other, as the loop of `store_content` does.
 use Prim.Native.Nat.{ℕ, ◌≤◌, ◌<◌}
 use mathlib.Core.Path.{◌≡◌, refl, sym, ap, ◌∙◌}
-use mathlib.Core.Bool.{Bool, true, false, ◌&&◌, false≢true}
+use mathlib.Core.Bool.{Bool, true, false, ◌&&◌}
 use mathlib.Core.List.{List, [], ◌∷◌}
 use mathlib.Core.Logic.{inl, inr}
 use mathlib.Core.Option.{Option, none, some}
 use native.Mathlib.Omega.{arith}
 use borrow.Author.Tests.{eqb-true, eq-eqb, ne_eqb, le-leb, ltb-true}
-use types.Run.{OneOf}
-use denote.Enum.Declared.{tag_of}
 use lib.Dec.{eqb, ltb, leb}
 use lib.ListN.{length, get_or, drop}
 use Rattle.rules.specs.declared.Slot.{Slot}
-use Rattle.rules.specs.Basic.{if◌then◌else◌, among, rising_from, is_some}
+use Rattle.std.specs.Prelude.{if◌then◌else◌}
+use Rattle.rules.specs.Basic.{among, rising_from, is_some}
 use Rattle.rules.specs.Expression.{expression, read_expression, is_state, may_become}
 use Rattle.rules.specs.Object.{Object}
 use Rattle.rules.specs.Metadata.{Field, field, sent_fields, field_allowed, fields_allowed, metadata_allowed}
@@ -20,7 +19,6 @@ use Rattle.rules.specs.Metadata.{value_of, sent_state, sent_expression, with_fie
 use Rattle.laws.proofs.Tests.{and_left, and_right}
 use Rattle.laws.proofs.Expressions.{expression_back}
 use Rattle.laws.proofs.Fitting.{fields_fit}
-use Rattle.expression.proofs.Tests.{among_yes}
 use Rattle.record.specs.Places.{object_at, Stored, with_record}
 use Rattle.record.specs.Records.{part}
 use Rattle.change.specs.Change.{with_lcso, with_expressions, with_expression}
@@ -29,7 +27,6 @@ use Rattle.change.proofs.Rewritten.{Rewritten, left_start, left_then}
 use Rattle.reader.specs.declared.Next.{Next}
 use Rattle.reader.specs.declared.Next.TheVariants as next
 use Rattle.reader.specs.Content.{field_at, place_after}
-use Rattle.reader.specs.contracts.Next as enum
 use Rattle.reader.proofs.Fields.{behind_field}
 use Rattle.content.specs.Storing.{tag_slot}
 use Rattle.content.proofs.Filling.{tags, Filling, First, first, none_left, Tag, its_tag}

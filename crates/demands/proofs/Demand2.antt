@@ -21,7 +21,8 @@ use Rattle.rules.specs.declared.Action.TheVariants.{GetData, GetMetadata, Write,
 use Rattle.rules.specs.declared.Row.TheVariants.{OnObject}
 use Rattle.rules.specs.declared.Verdict.{Verdict}
 use Rattle.rules.specs.declared.Verdict.TheVariants.{Accepted}
-use Rattle.rules.specs.Basic.{if◌then◌else◌, among}
+use Rattle.std.specs.Prelude.{if◌then◌else◌}
+use Rattle.rules.specs.Basic.{among}
 use Rattle.rules.specs.Command.{row, object_number, offset, sent_data, sent_body, sent_number}
 use Rattle.rules.specs.Response.{done_response, put_in_front}
 use Rattle.rules.specs.Expression.{Expression, never}

@@ -12,7 +12,8 @@ use lib.Dec.{eqb, ltb}
 use Rattle.mixing.specs.Runs.{All}
 use Rattle.mixing.specs.Cells.{Put, puts}
 use Rattle.mixing.proofs.Frame.{AllAt}
-use Rattle.rules.specs.Basic.{if◌then◌else◌, among, rising_from, rising}
+use Rattle.std.specs.Prelude.{if◌then◌else◌}
+use Rattle.rules.specs.Basic.{among, rising_from, rising}
 use Rattle.rules.specs.Object.{Object}
 use Rattle.rules.specs.Layout.{find, replaced}
 use Rattle.laws.proofs.Tests.{if_by, by_test, and_left, and_right}

@@ -18,7 +18,8 @@ use Rattle.rules.specs.declared.Action.{Action}
 use Rattle.rules.specs.declared.Action.TheVariants.{GetData, GetMetadata, Write, EraseAndWrite, SetMetadata, Count, Append, Acknowledge}
 use Rattle.rules.specs.declared.Verdict.{Verdict}
 use Rattle.rules.specs.declared.Verdict.TheVariants.{Refused, Accepted}
-use Rattle.rules.specs.Basic.{if◌then◌else◌, among}
+use Rattle.std.specs.Prelude.{if◌then◌else◌}
+use Rattle.rules.specs.Basic.{among}
 use Rattle.rules.specs.Command.{row, object_number, object_of}
 use Rattle.rules.specs.Expression.{Expression, always, never}
 use Rattle.rules.specs.Object.{Object, in_session, of_session, is}

@@ -3,14 +3,13 @@
 use Prim.Native.Nat.{ℕ}
 use mathlib.Core.Bool.{Bool, true, false, ◌&&◌, false≢true, and-true, and-false}
 use mathlib.Core.List.{List, [], ◌∷◌}
-use mathlib.Core.Option.{Option, none, some, map, none-ne-some}
+use mathlib.Core.Option.{none, some, map, none-ne-some}
 use mathlib.Core.Path.{◌≡◌, refl, sym, ap, ◌∙◌}
 use borrow.Author.Tests.{eqb-true, eqb-false, eq-eqb, ne_eqb, not-false}
 use lib.Dec.{eqb}
 use lib.ListN.{length}
 use Rattle.mixing.specs.Runs.{All}
 use Rattle.rules.specs.declared.Session.{Session}
-use Rattle.rules.specs.declared.Kind.{Kind}
 use Rattle.rules.specs.declared.Kind.TheVariants.{Counter, Queue}
 use Rattle.rules.specs.declared.Direction.TheVariants.{Up}
 use Rattle.rules.specs.declared.Action.{Action}
@@ -18,17 +17,18 @@ use Rattle.rules.specs.declared.Action.TheVariants.{GetData, GetMetadata, Write,
 use Rattle.rules.specs.declared.Row.{Row}
 use Rattle.rules.specs.declared.Row.TheVariants.{OnObject, OpenApplication, CloseApplication, Unknown}
 use Rattle.rules.specs.declared.Verdict.TheVariants.{Accepted}
-use Rattle.rules.specs.Basic.{if◌then◌else◌, all, or_else}
+use Rattle.std.specs.Prelude.{if◌then◌else◌}
+use Rattle.rules.specs.Basic.{all, or_else}
 use Rattle.rules.specs.Command.{Line, table_line, command_table, no_line, line_in, line_of, cmd, param, row, is_unknown, object_number, sent_body, sent_number}
 use Rattle.rules.specs.Response.{done_response, refused_response, put_in_front}
 use Rattle.rules.specs.Object.{Object, is, is_counter, with_content}
-use Rattle.rules.specs.Queue.{FareQueue, empty_queue, body_allowed, queue_allowed, queue_bytes, queue, queue_in, appended, present_in, acknowledged}
+use Rattle.rules.specs.Queue.{FareQueue, empty_queue, queue_allowed, queue_bytes, queue, queue_in, appended, present_in, acknowledged}
 use Rattle.rules.specs.Layout.{objects_allowed, unpack, pack, find}
 use Rattle.rules.specs.Metadata.{with_fields}
 use Rattle.rules.specs.Access.{Seen, seen, named, used_up, asked, access, granted}
 use Rattle.rules.specs.Operation.{setting_session, operation}
 use Rattle.rules.specs.Refusals.{unknown_param, Ruling, ruling_on, ruling_of, ruling, verdict}
-use Rattle.rules.specs.Step.{After, declined, objects_after, performed, flushed, unanswered, step}
+use Rattle.rules.specs.Step.{declined, objects_after, performed, flushed, unanswered, step}
 use Rattle.demands.specs.Demand.{is_done}
 use Rattle.demands.specs.Queues.{queue_of, stored_queue, appends, acknowledges}
 use Rattle.laws.proofs.Tests.{if_by, by_test, and_left, and_right, or_left, at_place}
@@ -90,7 +90,7 @@ elsewhere n c h = (rw h (by (eqb (cmd c) 0x02) (eqb (param c) 0x04)), rw h (by (
 
 -- the queue after a command that appends, or acknowledges
 abbrev pub after_command : Bool → Bool → List ℕ → FareQueue → FareQueue
-after_command a k c q = if a then appended (sent_body c) q else if k then acknowledged (sent_number c) q else q
+after_command a k c q = if a then appended (sent_body c) q else (if k then acknowledged (sent_number c) q else q)
 
 -- a queue in a store -------------------------------------------------------------------------------------------------------
 

@@ -1,8 +1,8 @@
 -- A fare queue over a run of any commands: the fares acknowledged and then those present are the fares accepted, in order, each once, numbered by
 -- ones; and a fare that was accepted is present until it is acknowledged.
 use Prim.Native.Nat.{ℕ, zero, suc, ◌+◌, ◌-◌, ◌≤◌, ◌<◌}
-use mathlib.Core.Bool.{Bool, true, false, ◌&&◌, false≢true}
-use mathlib.Core.List.{List, [], ◌∷◌, ◌++◌, append_assoc, map, map-append}
+use mathlib.Core.Bool.{Bool, true, false, ◌&&◌}
+use mathlib.Core.List.{List, [], ◌∷◌, ◌++◌, append_assoc, map-append}
 use mathlib.Core.Logic.{◌⊎◌, inl, inr}
 use mathlib.Core.Option.{some}
 use mathlib.Core.Path.{◌≡◌, refl, sym, ap, ◌∙◌}
@@ -13,7 +13,8 @@ use borrow.Author.Tests.{leb-true, lt-ltb}
 use lib.Dec.{eqb, leb, ltb}
 use lib.ListN.{length, length-append}
 use Rattle.mixing.specs.Runs.{answers, end}
-use Rattle.rules.specs.Basic.{if◌then◌else◌, among, rising_from, rising, or_else}
+use Rattle.std.specs.Prelude.{if◌then◌else◌}
+use Rattle.rules.specs.Basic.{among, rising_from, rising, or_else}
 use Rattle.rules.specs.Command.{sent_body, sent_number}
 use Rattle.rules.specs.Queue.{Fare, fare, FareQueue, empty_queue, numbered_below, queue_allowed, appended, present_in, up_to, past, acknowledged}
 use Rattle.rules.specs.Run.{Turn, Reply, Kept, reply, left, run}
@@ -22,7 +23,7 @@ use Rattle.demands.specs.Queues.{stored_queue, present_fares, appends, acknowled
 use Rattle.demands.specs.Queues.{numbers_from, numbers_of, QueueKept, Among, Acknowledged, NeverLost}
 use Rattle.laws.proofs.Tests.{by_test, and_left, and_both}
 use Rattle.laws.proofs.QueueChanges.{allowed, numbers_parts, present_between, up_to_past}
-use Rattle.demands.proofs.QueueSteps.{after_command, Holding, holding, allowed_there, QueueAfter, step_queue}
+use Rattle.demands.proofs.QueueSteps.{after_command, holding, allowed_there, QueueAfter, step_queue}
 
 -- numbers by ones ----------------------------------------------------------------------------------------------------------
 
@@ -104,7 +105,7 @@ module _ (n : ℕ) (a : Account) (h : Balanced n a) where
   unfolding noted
   noted_balanced m t r = by (appends m t.command && answered_00 r) (acknowledges m t.command && answered_00 r)
     where
-      by : (b k : Bool) → Balanced n (if b then after_append (sent_body t.command) a else if k then after_acknowledge (sent_number t.command) a else a)
+      by : (b k : Bool) → Balanced n (if b then after_append (sent_body t.command) a else (if k then after_acknowledge (sent_number t.command) a else a))
       by true k = append_balanced (sent_body t.command)
       by false true = acknowledge_balanced (sent_number t.command)
       by false false = h
@@ -131,7 +132,7 @@ unfolding noted after_append after_acknowledge appended acknowledged
 noted_known n t r a = by (appends n t.command && answered_00 r) (acknowledges n t.command && answered_00 r)
   where
     by : (b k : Bool) →
-        known (if b then after_append (sent_body t.command) a else if k then after_acknowledge (sent_number t.command) a else a) ≡
+        known (if b then after_append (sent_body t.command) a else (if k then after_acknowledge (sent_number t.command) a else a)) ≡
         after_command b k t.command (known a)
     by true k = refl
     by false true = refl

@@ -16,7 +16,8 @@ use Rattle.rules.specs.declared.Row.{Row}
 use Rattle.rules.specs.declared.Row.TheVariants.{OnObject, OpenApplication, CloseApplication, Unknown}
 use Rattle.rules.specs.declared.Verdict.{Verdict}
 use Rattle.rules.specs.declared.Verdict.TheVariants.{Refused}
-use Rattle.rules.specs.Basic.{if◌then◌else◌, or_else, is_some, first_of}
+use Rattle.std.specs.Prelude.{if◌then◌else◌}
+use Rattle.rules.specs.Basic.{or_else, is_some, first_of}
 use Rattle.rules.specs.Command.{row, asks_flush, object_number}
 use Rattle.rules.specs.Response.{code}
 use Rattle.rules.specs.Object.{Object, of_session, is_counter, is, kind_number}
@@ -65,8 +66,8 @@ module _ (c : List ℕ) (room : ℕ) (n : ℕ) (s : Session) (os : List Object) 
     where
       at : Bool → Bool → Bool → ℕ → Option Object
       at g a e byte =
-          first_of (if g then some (session_object 0xE0C0 LifeCycle s.lcsg) else if a then some (session_object 0xF1C0 LifeCycle s.lcsa) else
-          if e then some (session_object 0xF1C2 Status byte) else none) (find (object_number c) os)
+          first_of (if g then some (session_object 0xE0C0 LifeCycle s.lcsg) else (if a then some (session_object 0xF1C0 LifeCycle s.lcsa) else
+          (if e then some (session_object 0xF1C2 Status byte) else none))) (find (object_number c) os)
 
       by : (g b e : Bool) → late (ruling_on a c (at g b e n) before) room ≡ late (ruling_on a c (at g b e s.error) before) room
       by true b e = refl

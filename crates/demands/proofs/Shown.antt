@@ -16,7 +16,8 @@ use Rattle.rules.specs.declared.Action.{Action}
 use Rattle.rules.specs.declared.Action.TheVariants.{GetData}
 use Rattle.rules.specs.declared.Row.TheVariants.{OnObject}
 use Rattle.rules.specs.declared.Verdict.TheVariants.{Accepted}
-use Rattle.rules.specs.Basic.{if◌then◌else◌, among, is_some, or_else}
+use Rattle.std.specs.Prelude.{if◌then◌else◌}
+use Rattle.rules.specs.Basic.{among, is_some, or_else}
 use Rattle.rules.specs.Command.{row, object_number}
 use Rattle.rules.specs.Object.{Object, in_session}
 use Rattle.rules.specs.Layout.{pack, unpack, find}

@@ -36,7 +36,7 @@ use Rattle.rules.specs.Step.{flushed, step}
 use Rattle.rules.specs.Run.{Turn, Reply, Kept, reply, left, run, reads_or_writes}
 use Rattle.demands.specs.Demand.{is_done, Ready, well_formed, writes, content_allowed, changed, excepted, uses, UsedUp, MayWrite, WritesExactly, MayRead, ReadsExactly, session_byte, asks_byte, byte_shown, MayReadByte, after_byte, Shown, without_sizes, sent_back}
 use Rattle.demands.specs.Demand.{Plain, Names, object_counters, NamesCounter, sets_metadata, TwoLists}
-use Rattle.demands.specs.Queues.{queue_of, stored_queue, present_fares, appends, acknowledges, answered_00, Account, opening, after_append, after_acknowledge, noted, account, QueueKept, Among, Acknowledged, NeverLost}
+use Rattle.demands.specs.Queues.{queue_of, stored_queue, present_fares, appends, acknowledges, answered_00, opening, after_append, after_acknowledge, noted, account, QueueKept, Among, Acknowledged, NeverLost}
 use Rattle.rules.proofs.Bench as bench
 use Rattle.laws.proofs.Tests.{by_test, and_left, and_right}
 use Rattle.laws.proofs.Factory.{factory_sound}

@@ -1,5 +1,5 @@
 -- The demands' own words about one command and about two lists.
-use Rattle.std.specs.Prelude.{ℕ, ◌+◌, ◌/◌, ◌%◌, ◌≤◌, ◌<◌, min, Bool, true, false, not, ◌&&◌, List, [], ◌∷◌, ◌++◌, ◌⊎◌, ◌≡◌, eqb, leb, length, get_or}
+use Rattle.std.specs.Prelude.{ℕ, ◌+◌, ◌/◌, ◌%◌, ◌≤◌, ◌<◌, min, Bool, true, false, not, ◌&&◌, List, [], ◌∷◌, ◌++◌, ◌⊎◌, ◌≡◌, eqb, leb, length, get_or, if◌then◌else◌}
 use Rattle.std.proofs.Math.Option.{Option, none, some}
 use Rattle.mixing.specs.Runs.{All}
 use Rattle.rules.specs.declared.Session.{Session}
@@ -10,7 +10,7 @@ use Rattle.rules.specs.declared.Kind.TheVariants.{Counter, Queue}
 use Rattle.rules.specs.declared.Direction.TheVariants.{Up}
 use Rattle.rules.specs.declared.Row.{Row}
 use Rattle.rules.specs.declared.Row.TheVariants.{OnObject, OpenApplication, CloseApplication, Unknown}
-use Rattle.rules.specs.Basic.{if◌then◌else◌, among}
+use Rattle.rules.specs.Basic.{among}
 use Rattle.rules.specs.Command.{asks_flush, object_number, offset, asked_length, sent_data, step_byte, sent_metadata, sent_body, sent_number, object_of}
 use Rattle.rules.specs.Response.{code, done_response, refused_response, put_in_front}
 use Rattle.rules.specs.Expression.{Expression, is_state}
@@ -198,9 +198,9 @@ pub record ReadsExactly (c room store : List ℕ) (s : Session) (os : List Objec
 unfoldable pub session_byte : ℕ → Session → Option ℕ
 session_byte n s =
     if eqb n 0xE0C0 then some s.lcsg else
-    if eqb n 0xF1C0 then some s.lcsa else
-    if eqb n 0xF1C2 then some s.error else
-    none
+    (if eqb n 0xF1C0 then some s.lcsa else
+    (if eqb n 0xF1C2 then some s.error else
+    none))
 
 -- the byte of an object of the session is asked for, and what is then shown
 unfoldable pub asks_byte : List ℕ → Bool

@@ -1,8 +1,8 @@
 -- A fare queue over a run of any commands: what a host knows of it that sees the commands and the replies alone, and what stands in the store.
-use Rattle.std.specs.Prelude.{ℕ, zero, suc, ◌+◌, ◌-◌, ◌≤◌, Bool, true, ◌&&◌, List, [], ◌∷◌, ◌++◌, map, ◌⊎◌, ◌≡◌, eqb, length, get_or}
+use Rattle.std.specs.Prelude.{ℕ, zero, suc, ◌+◌, ◌-◌, ◌≤◌, Bool, true, ◌&&◌, List, [], ◌∷◌, ◌++◌, map, ◌⊎◌, ◌≡◌, eqb, length, get_or, if◌then◌else◌}
 use Rattle.std.proofs.Math.Option.{Option, none, some}
 use Rattle.rules.specs.declared.Kind.TheVariants.{Queue}
-use Rattle.rules.specs.Basic.{if◌then◌else◌, all, rising, or_else}
+use Rattle.rules.specs.Basic.{all, rising, or_else}
 use Rattle.rules.specs.Command.{cmd, param, object_number, sent_body, sent_number}
 use Rattle.rules.specs.Object.{Object, is}
 use Rattle.rules.specs.Queue.{Fare, fare, FareQueue, empty_queue, queue, up_to, past}
@@ -66,8 +66,8 @@ after_acknowledge k a =
 unfoldable pub noted : ℕ → Turn → Reply → Account → Account
 noted n t r a =
     if appends n t.command && answered_00 r then after_append (sent_body t.command) a else
-    if acknowledges n t.command && answered_00 r then after_acknowledge (sent_number t.command) a else
-    a
+    (if acknowledges n t.command && answered_00 r then after_acknowledge (sent_number t.command) a else
+    a)
 
 unfoldable pub account : ℕ → List Turn → List Reply → Account → Account
 account n [] rs a = a

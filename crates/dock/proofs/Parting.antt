@@ -8,7 +8,8 @@ use borrow.Author.Tests.{lt-ltb, le-ltb}
 use lib.Dec.{eqb, leb, ltb}
 use lib.ListN.{length, take, drop, length-append}
 use lib.Seq.{length-take-le, take_at}
-use Rattle.rules.specs.Basic.{if◌then◌else◌, little_endian_at}
+use Rattle.std.specs.Prelude.{if◌then◌else◌}
+use Rattle.rules.specs.Basic.{little_endian_at}
 use Rattle.primitives.specs.Bytes.{over}
 use Rattle.primitives.proofs.Over.{over_length}
 use Rattle.frames.specs.declared.FrameLength.{FrameLength}
@@ -19,7 +20,6 @@ use Rattle.frames.specs.declared.Step.TheVariants.{Whole, NotYet, Stopped}
 use Rattle.frames.specs.Frames.{around, longest, judged_by_head, judged}
 use denote.Enum.Declared.{tag_of}
 use types.Run.{OneOf}
-use mathlib.Core.Logic.{inl, inr}
 use Rattle.frames.specs.contracts.Step.{the_type}
 use Rattle.dock.specs.declared.Stream.{Stream}
 use Rattle.dock.specs.declared.Stream.TheVariants.{Collecting, Stopped as Stays}
@@ -44,7 +44,7 @@ module _ (bs : List ℕ) (s : Step) (e : s ≡ judged_by_head bs) where
 
   module _ (k : OneOf (1 ∷ []) (tag_of the_type s)) where
     yet : (t : Step) → OneOf (1 ∷ []) (tag_of the_type t) → (a b : Bool) → ltb (length bs) 2 ≡ a → ltb (length bs) 4 ≡ b
-        → (if a then 2 else if b then 4 else little_endian_at 0 bs) ≡ judged_after t bs
+        → (if a then 2 else (if b then 4 else little_endian_at 0 bs)) ≡ judged_after t bs
     unfolding judged_after
     yet (Whole k n) o a b p q = absurd (omega arith)
     yet (NotYet n) o a b p q = rw (p, q)

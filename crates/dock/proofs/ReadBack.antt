@@ -9,7 +9,8 @@ use borrow.Author.Tests.{eq-eqb, le-ltb, ltb-true, ltb-false}
 use lib.Dec.{ltb}
 use lib.ListN.{length, take, drop, get_or, length-append}
 use lib.Seq.{take_at, get_or-append-add}
-use Rattle.rules.specs.Basic.{if◌then◌else◌, little_endian, little_endian_at}
+use Rattle.std.specs.Prelude.{if◌then◌else◌}
+use Rattle.rules.specs.Basic.{little_endian, little_endian_at}
 use Rattle.frames.specs.declared.Kind.{Kind}
 use Rattle.frames.specs.declared.Kind.TheVariants.{Command, Response}
 use Rattle.frames.specs.declared.NamedKind.TheVariants.{Known}
@@ -138,8 +139,8 @@ wrote_frame k body room after w = go (ltb longest_body (length body)) refl (ltb 
     answered : Bool → Bool → Writing
     answered s t =
         if s then written (Refused BodyTooLong) room else
-        if t then written (Refused RoomTooSmall) room else
-        written (Wrote (in_frame (length body + around))) (frame_bytes k body ++ drop (length body + around) room)
+        (if t then written (Refused RoomTooSmall) room else
+        written (Wrote (in_frame (length body + around))) (frame_bytes k body ++ drop (length body + around) room))
 
     go : (s : Bool) → ltb longest_body (length body) ≡ s → (t : Bool) → 0 ≡ written_number (answered s t).answer → after ≡ (answered s t).room → WroteFrame k body after
     go true b t e h = let z : ◌≡◌ {A = ℕ} 0 1 = e in absurd (omega arith)

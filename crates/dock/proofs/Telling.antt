@@ -1,11 +1,7 @@
 -- What a host in C is told: laws for the code's cases.
 use Prim.Native.Nat.{ℕ}
 use mathlib.Core.Path.{◌≡◌, refl, ap, ◌∙◌}
-use mathlib.Core.List.{List, [], ◌∷◌}
-use mathlib.Core.Logic.{inl, inr}
-use native.Mathlib.Omega.{arith}
-use denote.Enum.Declared.{tag_of}
-use types.Run.{OneOf}
+use mathlib.Core.List.{List}
 use Rattle.frames.specs.declared.FrameLength.{FrameLength}
 use Rattle.frames.specs.declared.BodyLength.{BodyLength}
 use Rattle.frames.specs.declared.Kind.{Kind}
@@ -15,7 +11,6 @@ use Rattle.frames.specs.declared.Fault.TheVariants.{BadLength, UnknownKind, BadC
 use Rattle.frames.specs.declared.Step.{Step}
 use Rattle.frames.specs.declared.Step.TheVariants.{Whole, NotYet, Stopped}
 use Rattle.frames.specs.Frames.{kind_number, kind_numbered, fault_number}
-use Rattle.frames.specs.contracts.Step.{the_type}
 use Rattle.dock.specs.declared.Stream.{Stream}
 use Rattle.dock.specs.declared.Stream.TheVariants.{Collecting, Stopped as Stays}
 use Rattle.dock.specs.declared.Fed.{Fed}

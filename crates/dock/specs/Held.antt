@@ -1,6 +1,5 @@
 -- A stream as the code holds it: its value, and the lent bytes in which a frame is collected.
-use Rattle.std.specs.Prelude.{ℕ, ◌+◌, List, [], ◌∷◌, ◌++◌, ltb, take, set}
-use Rattle.rules.specs.Basic.{if◌then◌else◌}
+use Rattle.std.specs.Prelude.{ℕ, ◌+◌, List, [], ◌∷◌, ◌++◌, ltb, take, set, if◌then◌else◌}
 use Rattle.frames.specs.declared.Fault.TheVariants.{BadLength}
 use Rattle.dock.specs.declared.Stream.{Stream}
 use Rattle.dock.specs.declared.Stream.TheVariants.{Collecting, Stopped as Stays}

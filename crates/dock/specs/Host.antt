@@ -1,6 +1,5 @@
 -- A stream as a host in C keeps it: two numbers, each of any value, and the lent bytes.
-use Rattle.std.specs.Prelude.{ℕ, List, eqb}
-use Rattle.rules.specs.Basic.{if◌then◌else◌}
+use Rattle.std.specs.Prelude.{ℕ, List, eqb, if◌then◌else◌}
 use Rattle.frames.specs.declared.Fault.TheVariants.{BadLength, UnknownKind, BadCheck}
 use Rattle.frames.specs.declared.Step.{Step}
 use Rattle.frames.specs.declared.Step.TheVariants.{Whole, NotYet, Stopped}
@@ -16,9 +15,9 @@ use Rattle.dock.specs.Held.{feeding}
 unfoldable pub stream_of : HostStream → Stream
 stream_of h =
     if eqb h.stop 0 then Collecting (in_frame h.collected) else
-    if eqb h.stop 2 then Stays UnknownKind else
-    if eqb h.stop 3 then Stays BadCheck else
-    Stays BadLength
+    (if eqb h.stop 2 then Stays UnknownKind else
+    (if eqb h.stop 3 then Stays BadCheck else
+    Stays BadLength))
 
 -- the numbers of a stream: of one that stopped, nothing but the fault's
 unfoldable pub host_of : Stream → HostStream

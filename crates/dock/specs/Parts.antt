@@ -1,6 +1,6 @@
 -- Bytes taken at once: as many as come before the collected bytes are judged next.
-use Rattle.std.specs.Prelude.{ℕ, ◌+◌, ◌-◌, min, List, ◌++◌, ◌&&◌, eqb, leb, ltb, length, take}
-use Rattle.rules.specs.Basic.{if◌then◌else◌, little_endian_at}
+use Rattle.std.specs.Prelude.{ℕ, ◌+◌, ◌-◌, min, List, ◌++◌, ◌&&◌, eqb, leb, ltb, length, take, if◌then◌else◌}
+use Rattle.rules.specs.Basic.{little_endian_at}
 use Rattle.primitives.specs.Bytes.{over}
 use Rattle.frames.specs.declared.Fault.TheVariants.{BadLength}
 use Rattle.frames.specs.declared.Step.{Step}
@@ -13,7 +13,7 @@ use Rattle.dock.specs.declared.Part.{Part}
 -- a frame that goes on is judged next where its length ends, where its kind ends, at its last byte; other bytes, with the next
 unfoldable pub judged_after : Step → List ℕ → ℕ
 judged_after (Whole k n) bs = length bs + 1
-judged_after (NotYet n) bs = if ltb (length bs) 2 then 2 else if ltb (length bs) 4 then 4 else little_endian_at 0 bs
+judged_after (NotYet n) bs = if ltb (length bs) 2 then 2 else (if ltb (length bs) 4 then 4 else little_endian_at 0 bs)
 judged_after (Stopped f) bs = length bs + 1
 
 unfoldable pub next_judged : List ℕ → ℕ

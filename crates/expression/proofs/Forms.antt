@@ -7,7 +7,8 @@ use borrow.Author.Tests.{eqb-true, le-leb, leb-true}
 use native.Mathlib.Omega.{arith}
 use lib.Dec.{eqb, leb}
 use lib.ListN.{length, get_or, drop, length-drop}
-use Rattle.rules.specs.Basic.{if◌then◌else◌, all, same, is_some}
+use Rattle.std.specs.Prelude.{if◌then◌else◌}
+use Rattle.rules.specs.Basic.{all, same, is_some}
 use Rattle.rules.specs.Expression.{slot_size, Condition, Group, just, ◌and◌, Groups, only, ◌or◌, Expression, always, never, when}
 use Rattle.rules.specs.Expression.{condition_bytes, group_bytes, groups_bytes, expression_bytes}
 use Rattle.rules.specs.Expression.{in_first, read_groups, read_expression, expression_with, expression}

@@ -2,14 +2,13 @@
 use Prim.Native.Nat.{ℕ, ◌+◌, ◌-◌, ◌≤◌, ◌<◌}
 use mathlib.Core.Bool.{true}
 use mathlib.Core.List.{List, ◌++◌, append-nil, append_assoc}
-use mathlib.Core.Path.{◌≡◌, refl, sym, ap, ◌∙◌}
+use mathlib.Core.Path.{◌≡◌, sym, ap, ◌∙◌}
 use native.Mathlib.Omega.{arith}
-use native.Mathlib.Nat.{add-zero}
 use lib.ListN.{length, take, drop, length-append, length-take, length-drop, length-replicate, take-append-drop, replicate-append-replicate}
 use lib.Seq.{take_at, drop_at, drop-drop, drop-append-add, length-take-le, take-append_seam}
 use Rattle.rules.specs.declared.Kind.TheVariants.{Queue}
 use Rattle.rules.specs.Basic.{zeros, little_endian}
-use Rattle.rules.specs.Object.{Object, used, is, with_content, object_allowed}
+use Rattle.rules.specs.Object.{Object, used, is, with_content}
 use Rattle.rules.specs.Layout.{head_size}
 use Rattle.rules.specs.Queue.{fare_head, queue_bytes, queue_in, appended, present_in, acknowledged}
 use Rattle.laws.proofs.Queues.{queue_length}

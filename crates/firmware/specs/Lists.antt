@@ -1,6 +1,5 @@
 -- What a host in C sees of a list of commands.
-use Rattle.std.specs.Prelude.{ℕ, zero, suc, ◌-◌, Bool, true, ◌&&◌, List, ◌≡◌, ltb, leb, length, get_or, drop}
-use Rattle.rules.specs.Basic.{if◌then◌else◌}
+use Rattle.std.specs.Prelude.{ℕ, zero, suc, ◌-◌, Bool, true, ◌&&◌, List, ◌≡◌, ltb, leb, length, get_or, drop, if◌then◌else◌}
 use Rattle.runs.specs.Lists.{Lent, by_rules, lent}
 use Rattle.runs.specs.Demand.{Slice, MutSlice}
 use Rattle.firmware.specs.declared.HostSession.{HostSession}

@@ -2,23 +2,20 @@
 use Prim.Native.Nat.{ℕ, ◌-◌, ◌≤◌, ◌<◌}
 use mathlib.Core.Path.{◌≡◌, refl, ap, sym, ◌∙◌}
 use mathlib.Core.Bool.{Bool, true, false}
-use mathlib.Core.List.{List, [], ◌∷◌}
-use mathlib.Core.Logic.{inl, inr}
+use mathlib.Core.List.{List}
 use native.Mathlib.Omega.{arith}
 use borrow.Author.Tests.{ltb-false}
-use denote.Enum.Declared.{tag_of}
-use types.Run.{OneOf}
 use lib.Dec.{eqb, ltb}
 use lib.ListN.{length, take}
 use lib.Seq.{length-take-le}
-use Rattle.rules.specs.Basic.{if◌then◌else◌, little_endian_at}
+use Rattle.std.specs.Prelude.{if◌then◌else◌}
+use Rattle.rules.specs.Basic.{little_endian_at}
 use Rattle.frames.specs.declared.BodyLength.{BodyLength}
 use Rattle.frames.specs.declared.Kind.{Kind}
 use Rattle.frames.specs.declared.NamedKind.{NamedKind}
 use Rattle.frames.specs.declared.NamedKind.TheVariants.{Known, Unknown}
 use Rattle.frames.specs.declared.Fault.TheVariants.{UnknownKind, BadCheck}
 use Rattle.frames.specs.declared.Step.{Step}
-use Rattle.frames.specs.contracts.Step.{the_type}
 use Rattle.frames.specs.declared.Step.TheVariants.{Whole, NotYet, Stopped}
 use Rattle.frames.specs.Frames.{around, in_frame, in_body, kind_numbered, by_kind, judged_by_head, check_right, checked, judged}
 use Rattle.remainder.specs.Remainder.{remainder}

@@ -8,7 +8,8 @@ use native.Mathlib.Omega.{arith}
 use borrow.Author.Tests.{ltb-true, ltb-false, lt-ltb, le-ltb}
 use lib.Dec.{ltb}
 use lib.ListN.{length, get_or, get_or-append}
-use Rattle.rules.specs.Basic.{if◌then◌else◌, little_endian_at}
+use Rattle.std.specs.Prelude.{if◌then◌else◌}
+use Rattle.rules.specs.Basic.{little_endian_at}
 use Rattle.frames.specs.declared.FrameLength.{FrameLength}
 use Rattle.frames.specs.declared.Kind.{Kind}
 use Rattle.frames.specs.declared.NamedKind.{NamedKind}
@@ -59,8 +60,8 @@ judgment_kind bs (Known k) false g l e h = rw h (judgment_check bs k (check_righ
 
 judgment_head : (bs : List ℕ) (t₁ t₂ t₃ t₄ t₅ : Bool) → ltb (length bs) 2 ≡ t₁ → ltb (little_endian_at 0 bs) around ≡ t₂ → ltb longest (little_endian_at 0 bs) ≡ t₃
     → ltb (little_endian_at 0 bs) (length bs) ≡ t₄ → ltb (length bs) 4 ≡ t₅
-    → Judgment bs (checked (if t₁ then NotYet (in_frame (length bs)) else if t₂ then Stopped BadLength else if t₃ then Stopped BadLength else if t₄ then Stopped BadLength
-    else if t₅ then NotYet (in_frame (length bs)) else by_kind (kind_numbered (little_endian_at 2 bs)) bs) bs)
+    → Judgment bs (checked (if t₁ then NotYet (in_frame (length bs)) else (if t₂ then Stopped BadLength else (if t₃ then Stopped BadLength else (if t₄ then Stopped BadLength
+    else (if t₅ then NotYet (in_frame (length bs)) else by_kind (kind_numbered (little_endian_at 2 bs)) bs))))) bs)
 unfolding checked
 judgment_head bs true t₂ t₃ t₄ t₅ h₁ h₂ h₃ h₄ h₅ = no_length (ltb-true (length bs) 2 h₁)
 judgment_head bs false true t₃ t₄ t₅ h₁ h₂ h₃ h₄ h₅ = too_short (ltb-false (length bs) 2 h₁) (ltb-true (little_endian_at 0 bs) around h₂)

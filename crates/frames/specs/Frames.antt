@@ -1,6 +1,6 @@
 -- Frames: length 2, kind 2, body, check 2, all least significant byte first, the length counting the whole frame.
-use Rattle.std.specs.Prelude.{ℕ, ◌+◌, ◌-◌, Bool, ◌≡◌, List, ◌++◌, eqb, ltb, length, take, drop}
-use Rattle.rules.specs.Basic.{if◌then◌else◌, little_endian, little_endian_at}
+use Rattle.std.specs.Prelude.{ℕ, ◌+◌, ◌-◌, Bool, ◌≡◌, List, ◌++◌, eqb, ltb, length, take, drop, if◌then◌else◌}
+use Rattle.rules.specs.Basic.{little_endian, little_endian_at}
 use Rattle.remainder.specs.Remainder.{remainder}
 use Rattle.frames.specs.declared.FrameLength.{FrameLength}
 use Rattle.frames.specs.declared.BodyLength.{BodyLength}
@@ -23,7 +23,7 @@ kind_number Command = 0x0001
 kind_number Response = 0x0002
 
 unfoldable pub kind_numbered : ℕ → NamedKind
-kind_numbered n = if eqb n 0x0001 then Known Command else if eqb n 0x0002 then Known Response else Unknown
+kind_numbered n = if eqb n 0x0001 then Known Command else (if eqb n 0x0002 then Known Response else Unknown)
 
 -- what a stream stops with, and what the writer refuses with
 abbrev pub fault_number : Fault → ℕ
@@ -80,11 +80,11 @@ by_kind Unknown bs = Stopped UnknownKind
 unfoldable pub judged_by_head : List ℕ → Step
 judged_by_head bs =
     if ltb (length bs) 2 then NotYet (in_frame (length bs)) else
-    if ltb (little_endian_at 0 bs) around then Stopped BadLength else
-    if ltb longest (little_endian_at 0 bs) then Stopped BadLength else
-    if ltb (little_endian_at 0 bs) (length bs) then Stopped BadLength else
-    if ltb (length bs) 4 then NotYet (in_frame (length bs)) else
-    by_kind (kind_numbered (little_endian_at 2 bs)) bs
+    (if ltb (little_endian_at 0 bs) around then Stopped BadLength else
+    (if ltb longest (little_endian_at 0 bs) then Stopped BadLength else
+    (if ltb (little_endian_at 0 bs) (length bs) then Stopped BadLength else
+    (if ltb (length bs) 4 then NotYet (in_frame (length bs)) else
+    by_kind (kind_numbered (little_endian_at 2 bs)) bs))))
 
 -- the last two bytes are the remainder of all before them
 unfoldable pub check_right : List ℕ → Bool
@@ -113,8 +113,8 @@ written r room = record { answer = r; room = room }
 unfoldable pub writing : Kind → (body room : List ℕ) → Writing
 writing k body room =
     if ltb longest_body (length body) then written (Refused BodyTooLong) room else
-    if ltb (length room) (length body + around) then written (Refused RoomTooSmall) room else
-    written (Wrote (in_frame (length body + around))) (frame_bytes k body ++ drop (length body + around) room)
+    (if ltb (length room) (length body + around) then written (Refused RoomTooSmall) room else
+    written (Wrote (in_frame (length body + around))) (frame_bytes k body ++ drop (length body + around) room))
 
 -- the number that a host in C is told, and its room
 pub record HostWrites (k : Kind) (body room : List ℕ) (number : ℕ) (after : List ℕ) : Type 0 where

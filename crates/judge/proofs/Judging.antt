@@ -21,7 +21,7 @@ use Rattle.rules.specs.declared.Refusal.TheVariants.{InvalidObject, InvalidParam
 use Rattle.rules.specs.declared.Action.{Action}
 use Rattle.rules.specs.declared.Action.TheVariants.{GetData, GetMetadata, Write, EraseAndWrite, SetMetadata, Count, Append, Acknowledge}
 use Rattle.rules.specs.Command.{offset, asked_length, sent_data, sent_metadata, sent_body, sent_number}
-use Rattle.rules.specs.Basic.{if◌then◌else◌}
+use Rattle.std.specs.Prelude.{if◌then◌else◌}
 use Rattle.rules.specs.Expression.{may_become, always, never}
 use Rattle.rules.specs.Object.{Object, used, kind_number, is, of_session, is_counter, counter_size}
 use Rattle.rules.specs.Metadata.{metadata_allowed}

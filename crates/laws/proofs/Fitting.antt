@@ -15,7 +15,8 @@ use Rattle.rules.specs.declared.Direction.TheVariants.{Up, Down}
 use Rattle.rules.specs.declared.Action.{Action}
 use Rattle.rules.specs.declared.Action.TheVariants.{GetData, GetMetadata, Write, EraseAndWrite, SetMetadata, Count, Append, Acknowledge}
 use Rattle.rules.specs.declared.Verdict.TheVariants.{Accepted}
-use Rattle.rules.specs.Basic.{if◌then◌else◌, among, is_some, or_else, big_endian_4}
+use Rattle.std.specs.Prelude.{if◌then◌else◌}
+use Rattle.rules.specs.Basic.{among, is_some, or_else, big_endian_4}
 use Rattle.rules.specs.Command.{offset, sent_data, step_byte, sent_metadata, sent_body, sent_number}
 use Rattle.rules.specs.Expression.{Expression, never, expression, expression_allowed, is_state, may_become}
 use Rattle.rules.specs.Object.{Object, used, kind_number, is, of_session, is_counter, direction, counter_size, data_allowed, object_allowed, with_content}
@@ -28,7 +29,7 @@ use Rattle.laws.proofs.Tests.{if_by, and_left, and_right, at_place}
 use Rattle.laws.proofs.Expressions.{expression_read}
 use Rattle.laws.proofs.Facts.{allowed, allowed_by}
 use Rattle.laws.proofs.Queues.{queue_size, queue_length, queue_of_bytes, sound_layout}
-use Rattle.laws.proofs.QueueChanges.{Allowed, allowed as queue_facts, appended_allowed, appended_size, acknowledged_allowed, acknowledged_size}
+use Rattle.laws.proofs.QueueChanges.{allowed as queue_facts, appended_allowed, appended_size, acknowledged_allowed, acknowledged_size}
 use Rattle.laws.proofs.Verdicts.{passed}
 use Rattle.laws.proofs.Puts.{put_used}
 

@@ -6,7 +6,8 @@ use mathlib.Core.Path.{◌≡◌, refl, sym, ap, ◌∙◌}
 use borrow.Author.Tests.{eqb-true, eq-eqb}
 use lib.Dec.{eqb}
 use Rattle.rules.specs.declared.Session.{Session}
-use Rattle.rules.specs.Basic.{if◌then◌else◌, among}
+use Rattle.std.specs.Prelude.{if◌then◌else◌}
+use Rattle.rules.specs.Basic.{among}
 use Rattle.rules.specs.Command.{asks_flush}
 use Rattle.rules.specs.Expression.{Condition, names_counter, counter_number, Group, just, ◌and◌, Groups, only, ◌or◌, Expression, always, never, when}
 use Rattle.rules.specs.Object.{Object}

@@ -10,7 +10,8 @@ use borrow.Author.Tests.{ne_eqb, le-leb}
 use lib.Dec.{eqb, leb}
 use lib.ListN.{length, get_or, take, drop, length-append, length-take, length-drop, length-replicate, get_or-append}
 use lib.Seq.{get_or-append-add, get_or-take, get_or-drop, take-nil, drop-nil, slice, length-slice}
-use Rattle.rules.specs.Basic.{if◌then◌else◌, zeros}
+use Rattle.std.specs.Prelude.{if◌then◌else◌}
+use Rattle.rules.specs.Basic.{zeros}
 use Rattle.rules.specs.Command.{offset, asked_length}
 use Rattle.rules.specs.Operation.{shown, put_at}
 

@@ -7,8 +7,9 @@ use native.Mathlib.Omega.{arith}
 use borrow.Author.Tests.{eq-eqb, eqb-true, eqb-false, le-leb, lt-leb, leb-true, leb-false, lt-ltb, le-ltb, ltb-true}
 use lib.Dec.{eqb, leb, ltb}
 use lib.ListN.{length, length-append}
-use Rattle.rules.specs.Basic.{if◌then◌else◌, all, among, little_endian_4}
-use Rattle.rules.specs.Queue.{Fare, fare, FareQueue, fare_head, fare_size, body_allowed, bodies_allowed, numbered_below, queue_allowed, fare_bytes, fares_bytes, queue_bytes, appended, present_in, up_to, past, acknowledged}
+use Rattle.std.specs.Prelude.{if◌then◌else◌}
+use Rattle.rules.specs.Basic.{all, among, little_endian_4}
+use Rattle.rules.specs.Queue.{Fare, fare, FareQueue, fare_head, body_allowed, bodies_allowed, numbered_below, queue_allowed, fare_bytes, fares_bytes, queue_bytes, appended, present_in, up_to, past, acknowledged}
 use Rattle.laws.proofs.Tests.{if_by, by_test, and_left, and_right, and_both, at_place}
 use Rattle.laws.proofs.Queues.{fares_size, queue_size}
 

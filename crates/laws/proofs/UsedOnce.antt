@@ -9,7 +9,8 @@ use borrow.Author.Tests.{eqb-true, eq-eqb, ne_eqb}
 use lib.Dec.{eqb}
 use Rattle.rules.specs.declared.Kind.TheVariants.{Counter}
 use Rattle.rules.specs.declared.Direction.TheVariants.{Up}
-use Rattle.rules.specs.Basic.{if◌then◌else◌, among}
+use Rattle.std.specs.Prelude.{if◌then◌else◌}
+use Rattle.rules.specs.Basic.{among}
 use Rattle.rules.specs.Object.{Object, is}
 use Rattle.rules.specs.Layout.{objects_allowed, pack, unpack, find, replaced}
 use Rattle.rules.specs.Access.{one_up, used_up, all_used_up}

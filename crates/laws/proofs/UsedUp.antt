@@ -9,7 +9,8 @@ use borrow.Author.Tests.{eqb-true, eq-eqb}
 use lib.Dec.{eqb}
 use Rattle.rules.specs.declared.Kind.TheVariants.{Counter}
 use Rattle.rules.specs.declared.Direction.TheVariants.{Up}
-use Rattle.rules.specs.Basic.{if◌then◌else◌, among}
+use Rattle.std.specs.Prelude.{if◌then◌else◌}
+use Rattle.rules.specs.Basic.{among}
 use Rattle.rules.specs.Expression.{Expression}
 use Rattle.rules.specs.Object.{Object, is, with_content}
 use Rattle.rules.specs.Layout.{find, replaced}

@@ -13,7 +13,8 @@ use lib.Seq.{drop-cons, drop-drop}
 use Rattle.rules.specs.declared.Session.{Session}
 use Rattle.rules.specs.declared.Verdict.{Verdict}
 use Rattle.rules.specs.declared.Verdict.TheVariants.{Refused, Accepted}
-use Rattle.rules.specs.Basic.{if◌then◌else◌, zeros, big_endian_at}
+use Rattle.std.specs.Prelude.{if◌then◌else◌}
+use Rattle.rules.specs.Basic.{zeros, big_endian_at}
 use Rattle.rules.specs.Hex.{ascii}
 use Rattle.rules.specs.Object.{Object}
 use Rattle.rules.specs.Factory.{factory_store, fresh_session, factory_made}

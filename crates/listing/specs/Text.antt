@@ -1,6 +1,6 @@
 -- Text put into a lent output, as much of it as fits.
 use Rattle.std.specs.Prelude.{ℕ, ◌+◌, ◌≤◌, min, List, ◌++◌, ◌≡◌, length, take, drop}
-use Rattle.std.specs.Borrow.{Bor}
+use Rattle.std.specs.Borrow.{MutBor}
 use denote.Triple.Both.{Both}
 
 -- a text at the front of an output, cut at the output's end; bytes after it keep their values
@@ -20,7 +20,7 @@ pub record Put (at : ℕ) (text output after : List ℕ) (next : ℕ) : Type 0 w
 
 -- a slice that is lent: as it was, and as it came back
 abbrev pub Slice : Type 0
-Slice = Both (Bor (List ℕ)) (Bor (List ℕ))
+Slice = Both (MutBor (List ℕ)) (MutBor (List ℕ))
 
 abbrev pub Puts : ℕ → List ℕ → Slice → ℕ → Type 0
 Puts at text output next = Put at text output.entry.now output.exit.now next

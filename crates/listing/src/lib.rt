@@ -1,5 +1,6 @@
 // What the program prints: a line for each command of a list, in a lent output.
 #![tactic(auto)]
+
 ghost use Rattle.std.specs.Prelude.{◌≡◌, [], ◌∷◌, ◌<◌, ◌≤◌, length};
 ghost use Rattle.rules.specs.Program.{digit, upper_hex, line, response_in, answer_line, lines, printed};
 ghost use Rattle.rules.specs.Hex.{ascii};

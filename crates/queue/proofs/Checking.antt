@@ -1,5 +1,5 @@
 -- The check of a queue: how far it has come, and each of its ways out.
-use Prim.Native.Nat.{ℕ, ◌+◌, ◌-◌, ◌<◌, ◌≤◌}
+use Prim.Native.Nat.{ℕ, ◌+◌, ◌<◌, ◌≤◌}
 use mathlib.Core.Bool.{Bool, true, false, not, ◌&&◌, false≢true}
 use mathlib.Core.List.{List, [], ◌∷◌, ◌++◌}
 use mathlib.Core.Path.{◌≡◌, refl, sym, ap, ◌∙◌}
@@ -11,7 +11,7 @@ use Rattle.expression.proofs.Tests.{same_test}
 use Rattle.expression.proofs.Numbers.{Bytes, four_small, four_back}
 use Rattle.rules.specs.Basic.{is_some, little_endian_at, little_endian_4, little_endian_4_at}
 use Rattle.rules.specs.Queue.{Fare, FareQueue, queue_head, fare_head, bodies_allowed, numbered_below, queue_allowed, fare_bytes, fares_bytes, queue_bytes, queue, queue_in, present_in}
-use Rattle.laws.proofs.Queues.{fares_size, queue_size, fares_length, fares_count, queue_length, next_first, fares_last, layout_sound, sound_layout}
+use Rattle.laws.proofs.Queues.{fares_size, queue_size, queue_length, next_first, fares_last, layout_sound, sound_layout}
 use Rattle.laws.proofs.QueueChanges.{allowed, is_allowed, present_between, bodies_parts, bodies_joined, numbers_parts, numbers_joined, none_bodies, none_numbered}
 use Rattle.queue.specs.Fares.{whole_fare, first_number}
 use Rattle.queue.proofs.Fares.{size_here, number_here, length_here, rest_here, whole_here, Whole, whole, fare_at, body_back, fare_back}

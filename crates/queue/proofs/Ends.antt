@@ -7,7 +7,8 @@ use native.Mathlib.Omega.{arith}
 use lib.Dec.{eqb}
 use lib.ListN.{take, drop}
 use lib.Seq.{drop_at, drop-drop}
-use Rattle.rules.specs.Basic.{if◌then◌else◌, among, little_endian_4}
+use Rattle.std.specs.Prelude.{if◌then◌else◌}
+use Rattle.rules.specs.Basic.{among, little_endian_4}
 use Rattle.rules.specs.Queue.{Fare, FareQueue, queue_head, fare_size, fares_bytes, queue_bytes, present_in, up_to, past, acknowledged}
 use Rattle.laws.proofs.Tests.{by_test}
 use Rattle.laws.proofs.Queues.{fares_size, queue_size, fares_length, fares_last}

@@ -1,14 +1,14 @@
 -- What `append` and `acknowledge` leave is the layout of the changed queue.
 use Prim.Native.Nat.{ℕ, ◌+◌, ◌-◌, ◌<◌, ◌≤◌}
 use mathlib.Core.Bool.{true, false≢true}
-use mathlib.Core.List.{List, [], ◌++◌, append-nil, append_assoc}
+use mathlib.Core.List.{List, ◌++◌, append_assoc}
 use mathlib.Core.Path.{◌≡◌, refl, sym, ap, ◌∙◌}
 use native.Mathlib.Omega.{arith}
 use lib.ListN.{length, take, drop, length-append, length-drop, length-replicate, take-append-drop, replicate-append-replicate}
 use lib.Seq.{drop-append-le, length-take-le, take_at, take-take}
 use Rattle.rules.specs.Basic.{zeros, little_endian_4, little_endian_4_at}
 use Rattle.primitives.specs.Bytes.{over}
-use Rattle.primitives.proofs.Over.{over_over, over_length}
+use Rattle.primitives.proofs.Over.{over_over}
 use Rattle.rules.specs.Queue.{FareQueue, fare, queue_head, fare_bytes, fares_bytes, queue_bytes, appended, present_in, acknowledged}
 use Rattle.laws.proofs.Queues.{queue_size, four_bytes, fare_length, queue_length, sound_layout}
 use Rattle.laws.proofs.QueueChanges.{appended_bytes}

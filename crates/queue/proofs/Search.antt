@@ -7,7 +7,8 @@ use native.Mathlib.Omega.{arith}
 use borrow.Author.Tests.{eq-eqb, ne_eqb}
 use lib.Dec.{eqb}
 use lib.ListN.{length, drop, length-drop, drop_of_length-le}
-use Rattle.rules.specs.Basic.{if◌then◌else◌, is_some, little_endian_at, little_endian_4_at}
+use Rattle.std.specs.Prelude.{if◌then◌else◌}
+use Rattle.rules.specs.Basic.{is_some, little_endian_at, little_endian_4_at}
 use Rattle.rules.specs.Queue.{Fare, queue_head, fare_size, fare_bytes, fares_bytes, queue, queue_in}
 use Rattle.laws.proofs.Queues.{fares_length, fares_count, queue_length, next_first, fares_last, sound_layout}
 use Rattle.queue.specs.declared.FareEnd.TheVariants.{Behind, Absent}

@@ -1,6 +1,5 @@
 -- Where a fare ends in a queue's bytes.
-use Rattle.std.specs.Prelude.{ℕ, ◌+◌, List, [], ◌∷◌, eqb}
-use Rattle.rules.specs.Basic.{if◌then◌else◌}
+use Rattle.std.specs.Prelude.{ℕ, ◌+◌, List, [], ◌∷◌, eqb, if◌then◌else◌}
 use Rattle.rules.specs.Queue.{Fare, FareQueue, queue_head, fare_size}
 use Rattle.queue.specs.declared.FareEnd.{FareEnd}
 use Rattle.queue.specs.declared.FareEnd.TheVariants.{Behind, Absent}

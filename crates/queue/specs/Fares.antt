@@ -1,6 +1,6 @@
 -- Words for the contracts of the check.
-use Rattle.std.specs.Prelude.{ℕ, ◌+◌, ◌-◌, Bool, List, [], ◌∷◌, eqb, leb, ltb, length}
-use Rattle.rules.specs.Basic.{if◌then◌else◌, all, little_endian_at, little_endian_4_at}
+use Rattle.std.specs.Prelude.{ℕ, ◌+◌, ◌-◌, Bool, List, [], ◌∷◌, eqb, leb, ltb, length, if◌then◌else◌}
+use Rattle.rules.specs.Basic.{all, little_endian_at, little_endian_4_at}
 use Rattle.rules.specs.Queue.{fare_head, queue_head, fare_kind}
 
 -- the fare numbered n stands whole at p, with an allowed length

@@ -10,7 +10,7 @@ use borrow.Author.Tests.{lt-leb, le-ltb, leb-true, leb-false, ltb-false}
 use lib.Dec.{ltb, leb}
 use lib.ListN.{length, get_or, take, drop, length-append, length-take, length-drop, take-append-drop}
 use lib.Seq.{drop-cons, get_or-drop, drop-drop}
-use Rattle.rules.specs.Basic.{if◌then◌else◌}
+use Rattle.std.specs.Prelude.{if◌then◌else◌}
 use Rattle.rules.specs.Metadata as rules
 use Rattle.rules.specs.Metadata.{fields_bytes}
 use Rattle.reader.specs.declared.Next.{Next}
@@ -61,7 +61,7 @@ unfolding field_at
 standing at m = go (leb (length m) at) (ltb (length m - at) 2) (ltb (length m - at - 2) (get_or m (at + 1) 0)) refl refl refl
   where
     go : (x y z : Bool) → leb (length m) at ≡ x → ltb (length m - at) 2 ≡ y → ltb (length m - at - 2) (get_or m (at + 1) 0) ≡ z →
-        Standing at m (if x then End else if y then Broken else if z then Broken else Field (get_or m at 0) (at + 2) (at + 2 + get_or m (at + 1) 0))
+        Standing at m (if x then End else (if y then Broken else (if z then Broken else Field (get_or m at 0) (at + 2) (at + 2 + get_or m (at + 1) 0))))
     go true y z p q r = leb-true (length m) at p
     go false true z p q r = omega (arith, leb-false)
     go false false true p q r = omega (arith, leb-false)

@@ -1,6 +1,5 @@
 -- What stands at a position of metadata content, and where a reader goes from there.
-use Rattle.std.specs.Prelude.{ℕ, ◌+◌, ◌-◌, List, ltb, leb, length, get_or}
-use Rattle.rules.specs.Basic.{if◌then◌else◌}
+use Rattle.std.specs.Prelude.{ℕ, ◌+◌, ◌-◌, List, ltb, leb, length, get_or, if◌then◌else◌}
 use Rattle.reader.specs.declared.MetadataReader.{MetadataReader}
 use Rattle.reader.specs.declared.Next.{Next}
 use Rattle.reader.specs.declared.Next.TheVariants.{Field, End, Broken}
@@ -9,9 +8,9 @@ use Rattle.reader.specs.declared.Next.TheVariants.{Field, End, Broken}
 unfoldable pub field_at : ℕ → List ℕ → Next
 field_at at m =
     if leb (length m) at then End else
-    if ltb (length m - at) 2 then Broken else
-    if ltb (length m - at - 2) (get_or m (at + 1) 0) then Broken else
-    Field (get_or m at 0) (at + 2) (at + 2 + get_or m (at + 1) 0)
+    (if ltb (length m - at) 2 then Broken else
+    (if ltb (length m - at - 2) (get_or m (at + 1) 0) then Broken else
+    Field (get_or m at 0) (at + 2) (at + 2 + get_or m (at + 1) 0)))
 
 -- where a field ends, or the place given where there is none
 abbrev pub end_of : Next → ℕ → ℕ

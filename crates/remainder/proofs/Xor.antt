@@ -6,7 +6,7 @@ use native.Mathlib.Omega.{arith}
 use native.Mathlib.Nat.{mul_assoc}
 use lib.Bits.{bit_xor, differ, xor_step, xor_shr, xor_mod, xor_comm, xor_shifted}
 use lib.Dec.{eqb}
-use Rattle.rules.specs.Basic.{if◌then◌else◌}
+use Rattle.std.specs.Prelude.{if◌then◌else◌}
 use Rattle.remainder.specs.Remainder.{bit_step, eight_steps}
 
 -- of single digits, by cases

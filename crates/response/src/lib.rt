@@ -1,5 +1,6 @@
 // Responses, written at the front of the room: bytes after the response keep their values.
 #![tactic(auto)]
+
 ghost use Rattle.std.specs.Prelude.{◌≡◌, [], ◌∷◌, ◌+◌, ◌<◌, ◌≤◌, length};
 ghost use Rattle.rules.specs.Basic.{big_endian};
 ghost use Rattle.rules.specs.Response.{put_in_front, done_response, refused_response};

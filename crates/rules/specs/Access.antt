@@ -1,12 +1,12 @@
 -- What an action sees, what an access expression grants and which counters that uses up, and which expression each action asks.
-use Rattle.std.specs.Prelude.{ℕ, Bool, true, false, not, ◌&&◌, List, [], ◌∷◌, ◌++◌, map, eqb, ltb}
+use Rattle.std.specs.Prelude.{ℕ, Bool, true, false, not, ◌&&◌, List, [], ◌∷◌, ◌++◌, map, eqb, ltb, if◌then◌else◌}
 use Rattle.std.proofs.Math.Option.{Option, none, some}
 use Rattle.rules.specs.declared.Session.{Session}
 use Rattle.rules.specs.declared.Action.{Action}
 use Rattle.rules.specs.declared.Action.TheVariants.{GetData, GetMetadata, Write, EraseAndWrite, SetMetadata, Count, Append, Acknowledge}
 use Rattle.rules.specs.declared.Kind.TheVariants.{Counter, Queue}
 use Rattle.rules.specs.declared.Direction.TheVariants.{Up}
-use Rattle.rules.specs.Basic.{if◌then◌else◌, among, first_of, or_else}
+use Rattle.rules.specs.Basic.{among, first_of, or_else}
 use Rattle.rules.specs.Expression.{Condition, names_counter, counter_number, Group, just, ◌and◌, Groups, only, ◌or◌, Expression, always, never, when}
 use Rattle.rules.specs.Object.{Object, is, of_session, with_content}
 use Rattle.rules.specs.Counter.{exhausted, after_count}
@@ -36,16 +36,16 @@ named n see = first_of (find n (session_objects see.session)) (see.stored n)
 unfoldable pub present : Seen → ℕ → ℕ → ℕ
 present see lcso subject =
     if eqb subject 0x70 then see.session.lcsg else
-    if eqb subject 0xE0 then see.session.lcsa else
-    lcso
+    (if eqb subject 0xE0 then see.session.lcsa else
+    lcso)
 
 -- it compares the present state to the reference as numbers
 unfoldable pub state_holds : Seen → ℕ → Condition → Bool
 state_holds see lcso c =
     let now = present see lcso c.subject in
     if eqb c.relation 0xFA then eqb now c.reference else
-    if eqb c.relation 0xFB then ltb c.reference now else
-    ltb now c.reference
+    (if eqb c.relation 0xFB then ltb c.reference now else
+    ltb now c.reference)
 
 -- an up counter, and its value is below its threshold
 unfoldable pub usable : Option Object → Bool

@@ -1,11 +1,11 @@
 -- Command and response bytes: a command's parts, and the command table.
-use Rattle.std.specs.Prelude.{ℕ, ◌%◌, Bool, true, false, ◌&&◌, ◌||◌, List, [], ◌∷◌, ◌++◌, eqb, leb, length, get_or, drop}
+use Rattle.std.specs.Prelude.{ℕ, ◌%◌, Bool, true, false, ◌&&◌, ◌||◌, List, [], ◌∷◌, ◌++◌, eqb, leb, length, get_or, drop, if◌then◌else◌}
 use Rattle.std.proofs.Math.Option.{Option, none, some}
 use Rattle.rules.specs.declared.Action.TheVariants.{GetData, GetMetadata, Write, EraseAndWrite, SetMetadata, Count, Append, Acknowledge}
 use Rattle.rules.specs.declared.Sizes.{Sizes}
 use Rattle.rules.specs.declared.Row.{Row}
 use Rattle.rules.specs.declared.Row.TheVariants.{OnObject, OpenApplication, CloseApplication, Unknown}
-use Rattle.rules.specs.Basic.{if◌then◌else◌, same, big_endian_at, big_endian_4_at}
+use Rattle.rules.specs.Basic.{same, big_endian_at, big_endian_4_at}
 use Rattle.rules.specs.Hex.{hex, ascii}
 
 -- Cmd (1), Param (1), InLen (2), InData --------------------------------------------------------------------------------

@@ -1,8 +1,8 @@
 -- Counters: value 4 bytes, threshold 4 bytes, both most significant byte first. A count moves the value by a step to its threshold.
-use Rattle.std.specs.Prelude.{ℕ, ◌+◌, ◌-◌, Bool, List, ◌++◌, leb, drop}
+use Rattle.std.specs.Prelude.{ℕ, ◌+◌, ◌-◌, Bool, List, ◌++◌, leb, drop, if◌then◌else◌}
 use Rattle.rules.specs.declared.Direction.{Direction}
 use Rattle.rules.specs.declared.Direction.TheVariants.{Up, Down}
-use Rattle.rules.specs.Basic.{if◌then◌else◌, big_endian_4, big_endian_4_at}
+use Rattle.rules.specs.Basic.{big_endian_4, big_endian_4_at}
 
 -- numbers ----------------------------------------------------------------------------------------------------------------
 

@@ -1,7 +1,7 @@
 -- Life cycles and access expressions: their form, their bytes, their limits. When they hold is in Access.
-use Rattle.std.specs.Prelude.{ℕ, ◌+◌, ◌*◌, ◌/◌, Bool, true, ◌&&◌, ◌||◌, List, [], ◌∷◌, ◌++◌, eqb, leb}
+use Rattle.std.specs.Prelude.{ℕ, ◌+◌, ◌*◌, ◌/◌, Bool, true, ◌&&◌, ◌||◌, List, [], ◌∷◌, ◌++◌, eqb, leb, if◌then◌else◌}
 use Rattle.std.proofs.Math.Option.{Option, none, some}
-use Rattle.rules.specs.Basic.{if◌then◌else◌, all, among, same}
+use Rattle.rules.specs.Basic.{all, among, same}
 
 -- States: 01 creation, 03 initialisation, 07 operational, 0F termination
 unfoldable pub is_state : ℕ → Bool
@@ -134,8 +134,8 @@ read_groups [] = only (just (record { subject = 0; relation = 0; reference = 0 }
 unfoldable pub read_expression : List ℕ → Expression
 read_expression b =
     if same b (0x00 ∷ []) then always else
-    if same b (0xFF ∷ []) then never else
-    when (read_groups b)
+    (if same b (0xFF ∷ []) then never else
+    when (read_groups b))
 
 -- the expression whose bytes these are, within the limits of a slot of this size; none: not well formed
 unfoldable pub expression_with : ℕ → List ℕ → Option Expression

@@ -1,8 +1,7 @@
 -- The factory store, from one table, and the fresh session.
-use Rattle.std.specs.Prelude.{ℕ, false, List, [], ◌∷◌, map, eqb, length}
+use Rattle.std.specs.Prelude.{ℕ, false, List, [], ◌∷◌, map, eqb, length, if◌then◌else◌}
 use Rattle.rules.specs.declared.Session.{Session}
 use Rattle.rules.specs.declared.Kind.TheVariants.{Data}
-use Rattle.rules.specs.Basic.{if◌then◌else◌}
 use Rattle.rules.specs.Expression.{Expression, always, when, only, just}
 use Rattle.rules.specs.Object.{Object}
 use Rattle.rules.specs.Layout.{pack}

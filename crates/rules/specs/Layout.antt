@@ -1,12 +1,12 @@
 -- The store's bytes: `pack` lays objects out as records end to end, `unpack` reads them back. What is not the packing of
 -- allowed objects is malformed. All of it over the size of a slot, then with the present one.
-use Rattle.std.specs.Prelude.{ℕ, zero, suc, ◌+◌, ◌*◌, ◌-◌, Bool, ◌&&◌, List, [], ◌∷◌, ◌++◌, map, eqb, leb, length, get_or, take, drop}
+use Rattle.std.specs.Prelude.{ℕ, zero, suc, ◌+◌, ◌*◌, ◌-◌, Bool, ◌&&◌, List, [], ◌∷◌, ◌++◌, map, eqb, leb, length, get_or, take, drop, if◌then◌else◌}
 use Rattle.std.proofs.Math.Option.{Option, none, some}
 use Rattle.rules.specs.declared.Found.{Found}
 use Rattle.rules.specs.declared.Found.TheVariants.{At, Nothing}
 use Rattle.rules.specs.declared.Slot.{Slot}
 use Rattle.rules.specs.declared.Slot.TheVariants.{Change, Read, Execute}
-use Rattle.rules.specs.Basic.{if◌then◌else◌, all, same, rising, joined, zeros, little_endian, little_endian_at}
+use Rattle.rules.specs.Basic.{all, same, rising, joined, zeros, little_endian, little_endian_at}
 use Rattle.rules.specs.Expression.{Expression, expression_bytes, read_expression}
 pub use Rattle.rules.specs.Expression.{slot_size}
 use Rattle.rules.specs.Object.{Object, used, kind_number, read_kind, all_allowed_with}

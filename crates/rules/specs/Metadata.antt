@@ -1,7 +1,7 @@
 -- Metadata: what an object answers, what content may be sent in, what it changes.
-use Rattle.std.specs.Prelude.{ℕ, zero, suc, ◌+◌, Bool, true, ◌&&◌, List, [], ◌∷◌, ◌++◌, map, eqb, leb, length, get_or, take, drop}
+use Rattle.std.specs.Prelude.{ℕ, zero, suc, Bool, true, ◌&&◌, List, [], ◌∷◌, ◌++◌, map, eqb, leb, length, get_or, take, drop, if◌then◌else◌}
 use Rattle.std.proofs.Math.Option.{Option, none, some}
-use Rattle.rules.specs.Basic.{if◌then◌else◌, all, among, same, rising, big_endian, is_some, or_else}
+use Rattle.rules.specs.Basic.{all, among, same, rising, big_endian, is_some, or_else}
 use Rattle.rules.specs.Expression.{Expression, expression, expression_bytes, may_become}
 use Rattle.rules.specs.Object.{Object, used}
 

@@ -1,12 +1,12 @@
 -- What an object holds on the controller.
-use Rattle.std.specs.Prelude.{ℕ, Bool, true, false, not, ◌&&◌, ◌||◌, List, [], ◌∷◌, eqb, ltb, leb, length}
+use Rattle.std.specs.Prelude.{ℕ, Bool, true, false, not, ◌&&◌, ◌||◌, List, [], ◌∷◌, eqb, ltb, leb, length, if◌then◌else◌}
 use Rattle.rules.specs.declared.Kind.{Kind}
 use Rattle.rules.specs.declared.Kind.TheVariants.{Data, Counter, Queue, LifeCycle, Status}
 use Rattle.rules.specs.declared.Direction.{Direction}
 use Rattle.rules.specs.declared.Direction.TheVariants.{Up, Down}
 use Rattle.rules.specs.declared.Slot.{Slot}
 use Rattle.rules.specs.declared.Slot.TheVariants.{Change, Read, Execute}
-use Rattle.rules.specs.Basic.{if◌then◌else◌, all, among, is_some}
+use Rattle.rules.specs.Basic.{all, among, is_some}
 use Rattle.rules.specs.Queue.{queue}
 use Rattle.rules.specs.Expression.{Expression, slot_size, expression_allowed_with, is_state}
 
@@ -25,9 +25,9 @@ kind_number Status = 0x10002
 unfoldable pub read_kind : ℕ → Kind
 read_kind n =
     if eqb n 0x0001 then Data else
-    if eqb n 0x0002 then Counter Up else
-    if eqb n 0x0003 then Queue else
-    Counter Down
+    (if eqb n 0x0002 then Counter Up else
+    (if eqb n 0x0003 then Queue else
+    Counter Down))
 
 -- one kind is the other
 unfoldable pub is : Kind → Kind → Bool

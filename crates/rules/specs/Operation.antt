@@ -1,5 +1,5 @@
 -- Reading, writing, counting, appending and acknowledging: what each action refuses of an object beyond access, answers and changes.
-use Rattle.std.specs.Prelude.{ℕ, ◌+◌, ◌-◌, min, Bool, not, ◌&&◌, ◌||◌, List, [], ◌++◌, eqb, leb, ltb, length, get_or, take, drop}
+use Rattle.std.specs.Prelude.{ℕ, ◌+◌, ◌-◌, min, Bool, not, ◌&&◌, ◌||◌, List, [], ◌++◌, eqb, leb, ltb, length, get_or, take, drop, if◌then◌else◌}
 use Rattle.std.proofs.Math.Option.{Option, none, some}
 use Rattle.std.proofs.Math.Seq.{slice}
 use Rattle.rules.specs.declared.Session.{Session}
@@ -9,7 +9,7 @@ use Rattle.rules.specs.declared.Action.TheVariants.{GetData, GetMetadata, Write,
 use Rattle.rules.specs.declared.Refusal.TheVariants.{InvalidParam, InvalidData, BoundaryExceeded, InsufficientBuffer}
 use Rattle.rules.specs.declared.Verdict.{Verdict}
 use Rattle.rules.specs.declared.Verdict.TheVariants.{Accepted}
-use Rattle.rules.specs.Basic.{if◌then◌else◌, zeros}
+use Rattle.rules.specs.Basic.{zeros}
 use Rattle.rules.specs.Command.{offset, asked_length, sent_data, step_byte, sent_metadata, sent_body, sent_number}
 use Rattle.rules.specs.Expression.{may_become}
 use Rattle.rules.specs.Object.{Object, used, with_content, is, of_session, is_counter, direction, counter_size}

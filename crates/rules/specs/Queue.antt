@@ -1,8 +1,8 @@
 -- Fare queues: `queue_bytes` lays a queue out as the data of an object of kind 0003, `queue` reads it back. What is not the layout of an allowed
 -- queue is malformed. Then what an append and an acknowledgement leave of it.
-use Rattle.std.specs.Prelude.{ℕ, zero, suc, ◌+◌, ◌-◌, Bool, true, ◌&&◌, List, [], ◌∷◌, ◌++◌, map, eqb, leb, ltb, length, take, drop}
+use Rattle.std.specs.Prelude.{ℕ, zero, suc, ◌+◌, ◌-◌, Bool, true, ◌&&◌, List, [], ◌∷◌, ◌++◌, map, eqb, leb, ltb, length, take, drop, if◌then◌else◌}
 use Rattle.std.proofs.Math.Option.{Option, none, some}
-use Rattle.rules.specs.Basic.{if◌then◌else◌, all, among, same, joined, little_endian, little_endian_at, little_endian_4, little_endian_4_at, or_else}
+use Rattle.rules.specs.Basic.{all, among, same, joined, little_endian, little_endian_at, little_endian_4, little_endian_4_at, or_else}
 
 -- a fare under its sequence number
 pub record Fare : Type 0 where

@@ -1,9 +1,8 @@
 -- The session with one part changed, and its three objects.
-use Rattle.std.specs.Prelude.{ℕ, Bool, List, [], ◌∷◌, eqb}
+use Rattle.std.specs.Prelude.{ℕ, Bool, List, [], ◌∷◌, eqb, if◌then◌else◌}
 use Rattle.rules.specs.declared.Session.{Session}
 use Rattle.rules.specs.declared.Kind.{Kind}
 use Rattle.rules.specs.declared.Kind.TheVariants.{LifeCycle, Status}
-use Rattle.rules.specs.Basic.{if◌then◌else◌}
 use Rattle.rules.specs.Expression.{Expression, always, never}
 use Rattle.rules.specs.Object.{Object, is}
 
@@ -25,8 +24,8 @@ with_error n s = record { opened = s.opened; lcsg = s.lcsg; lcsa = s.lcsa; error
 unfoldable pub with_state : ℕ → ℕ → Session → Session
 with_state number n s =
     if eqb number 0xE0C0 then with_lcsg n s else
-    if eqb number 0xF1C0 then with_lcsa n s else
-    s
+    (if eqb number 0xF1C0 then with_lcsa n s else
+    s)
 
 -- its objects ---------------------------------------------------------------------------------------------------------
 

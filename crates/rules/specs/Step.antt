@@ -1,11 +1,11 @@
 -- One command: step 1, the flush, the verdict of the steps 2 to 13, and what comes of it.
-use Rattle.std.specs.Prelude.{ℕ, max, List, [], ltb, length}
+use Rattle.std.specs.Prelude.{ℕ, max, List, [], ltb, length, if◌then◌else◌}
 use Rattle.std.proofs.Math.Option.{Option, none, some}
 use Rattle.rules.specs.declared.Session.{Session}
 use Rattle.rules.specs.declared.Refusal.{Refusal}
 use Rattle.rules.specs.declared.Verdict.{Verdict}
 use Rattle.rules.specs.declared.Verdict.TheVariants.{Refused, Accepted}
-use Rattle.rules.specs.Basic.{if◌then◌else◌, is_some, or_else}
+use Rattle.rules.specs.Basic.{is_some, or_else}
 use Rattle.rules.specs.Command.{asks_flush, row}
 use Rattle.rules.specs.Response.{code, done_response, refused_response, put_in_front}
 use Rattle.rules.specs.Object.{Object}

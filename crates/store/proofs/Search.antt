@@ -8,7 +8,7 @@ use native.Mathlib.Nat.{zero-add}
 use borrow.Author.Tests.{eq-eqb, ne_eqb, le-leb, lt-leb}
 use lib.Dec.{leb}
 use lib.ListN.{length, drop, length-drop, take-append-drop, drop_of_length-le}
-use Rattle.rules.specs.Basic.{if◌then◌else◌}
+use Rattle.std.specs.Prelude.{if◌then◌else◌}
 use Rattle.rules.specs.Object.{Object, object_allowed, all_allowed, all_allowed_with}
 use Rattle.rules.specs.Layout.{slot_size, head_size, record_size, record_bytes, size, pack, read_record, read_records_with, pack_with, found_behind, found}
 use Rattle.rules.specs.declared.Found.TheVariants.{At, Nothing}

@@ -11,7 +11,8 @@ use lib.ListN.{length, take, length-append}
 use lib.Seq.{take_at}
 use Rattle.rules.specs.declared.Found.{Found}
 use Rattle.rules.specs.declared.Found.TheVariants.{At, Nothing}
-use Rattle.rules.specs.Basic.{if◌then◌else◌, is_some, or_else, rising_from, rising}
+use Rattle.std.specs.Prelude.{if◌then◌else◌}
+use Rattle.rules.specs.Basic.{is_some, or_else, rising_from, rising}
 use Rattle.rules.specs.Object.{Object, object_allowed, all_allowed, all_allowed_with}
 use Rattle.rules.specs.Layout.{slot_size, record_size, record_bytes, size, objects_allowed, pack, unpack, read_record, read_records_with, pack_with, size_with, found_behind, found}
 use Rattle.laws.proofs.Tests.{by_test, and_left, and_right, or_left, or_right, same_refl, some_else}

@@ -1,6 +1,6 @@
 -- The way of a search for an object: the records from the front of a store up to the first numbered at or above it.
-use Rattle.std.specs.Prelude.{ℕ, Bool, false, ◌&&◌, ◌||◌, List, [], ◌∷◌, leb, length, take}
-use Rattle.rules.specs.Basic.{if◌then◌else◌, same}
+use Rattle.std.specs.Prelude.{ℕ, Bool, false, ◌&&◌, ◌||◌, List, [], ◌∷◌, leb, length, take, if◌then◌else◌}
+use Rattle.rules.specs.Basic.{same}
 use Rattle.rules.specs.Object.{Object, all_allowed}
 use Rattle.rules.specs.Layout.{slot_size, size, pack, read_records_with}
 

@@ -1,6 +1,6 @@
 -- A list of numbers, each taken once.
-use Rattle.std.specs.Prelude.{ℕ, List, [], ◌∷◌, get_or, take}
-use Rattle.rules.specs.Basic.{if◌then◌else◌, among}
+use Rattle.std.specs.Prelude.{ℕ, List, [], ◌∷◌, get_or, take, if◌then◌else◌}
+use Rattle.rules.specs.Basic.{among}
 
 -- the number at a place where it stands first, else none
 abbrev pub first_named : ℕ → List ℕ → List ℕ

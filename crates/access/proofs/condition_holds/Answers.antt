@@ -1,5 +1,4 @@
 -- It is on a counter, or on a state.
-use borrow.Author.Rules.{rules}
 use Rattle.access.proofs.Uses.{holds_by_counter, holds_by_state}
 use Rattle.access.proofs.condition_holds.Goals as goal
 

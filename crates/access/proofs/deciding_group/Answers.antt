@@ -1,13 +1,7 @@
 -- What is left to judge is what the rest grants; the present group's counters are those of the first group from its place on.
 use borrow.Author.Rules.{rules}
-use Prim.Native.Nat.{◌+◌, ◌-◌, ◌%◌, ◌≤◌}
-use mathlib.Core.Path.{◌≡◌}
-use lib.ListN.{length, drop}
 use native.Mathlib.Omega.{arith}
-use Rattle.rules.specs.Expression.{read_expression}
-use Rattle.rules.specs.Access.{seen_in, grant}
-use Rattle.access.specs.Groups.{first_group, IsGroup}
-use Rattle.access.proofs.Granting.{rest_grant, last_true, last_false, rest_true, rest_on, start_on, grant_joined, whole_group, first_bound, first_whole}
+use Rattle.access.proofs.Granting.{last_true, last_false, rest_true, rest_on, start_on, grant_joined, whole_group, first_bound, first_whole}
 use Rattle.access.proofs.deciding_group.Goals as goal
 
 pub loop-at-init : goal.loop-at-init

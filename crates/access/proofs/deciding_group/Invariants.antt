@@ -1,12 +1,10 @@
-use borrow.Author.Rules.{rules}
 use Prim.Native.Nat.{◌+◌, ◌-◌, ◌%◌, ◌≤◌}
 use mathlib.Core.Path.{◌≡◌}
 use lib.ListN.{length, drop}
-use native.Mathlib.Omega.{arith}
 use Rattle.rules.specs.Expression.{read_expression}
 use Rattle.rules.specs.Access.{seen_in, grant}
 use Rattle.access.specs.Groups.{first_group, IsGroup}
-use Rattle.access.proofs.Granting.{rest_grant, last_true, last_false, rest_true, rest_on, start_on, grant_joined, whole_group, first_bound, first_whole}
+use Rattle.access.proofs.Granting.{rest_grant}
 use Rattle.access.proofs.deciding_group.Given as goal
 
 abbrev pub invariant-loop-at : goal.invariant-loop-at

@@ -1,12 +1,9 @@
-use borrow.Author.Rules.{rules}
 use Prim.Native.Nat.{◌+◌, ◌*◌, ◌-◌, ◌%◌, ◌≤◌}
 use mathlib.Core.Path.{◌≡◌}
 use mathlib.Core.List.{◌++◌}
 use lib.ListN.{length, drop}
-use native.Mathlib.Omega.{arith}
 use Rattle.access.specs.Told.{listed}
 use Rattle.access.specs.Groups.{first_group}
-use Rattle.access.proofs.Granting.{listed_none, group_ends, group_on, group_last}
 use Rattle.access.proofs.group_counters.Given as goal
 
 abbrev pub invariant-loop-at : goal.invariant-loop-at

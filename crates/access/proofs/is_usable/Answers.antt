@@ -1,5 +1,4 @@
 -- The record found decides.
-use borrow.Author.Rules.{rules}
 use Rattle.store.proofs.Ways.{sound_leads}
 use Rattle.access.proofs.Uses.{not_usable, counter_stored, usable_there}
 use Rattle.access.proofs.is_usable.Goals as goal

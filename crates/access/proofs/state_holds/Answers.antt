@@ -1,5 +1,4 @@
 -- Each way out is one of the definition's.
-use borrow.Author.Rules.{rules}
 use Rattle.expression.proofs.Tests.{tests}
 use Rattle.access.proofs.Uses.{state_by}
 use Rattle.access.proofs.state_holds.Goals as goal

@@ -1,5 +1,4 @@
 -- The group failed before, or this condition decides.
-use borrow.Author.Rules.{rules}
 use Rattle.access.proofs.Uses.{held_not, held_on}
 use Rattle.access.proofs.still_holds.Goals as goal
 

@@ -1,6 +1,5 @@
 -- It names a counter, or none.
 use native.Mathlib.Omega.{arith}
-use borrow.Author.Rules.{rules}
 use Rattle.access.proofs.Uses.{names_it, lists_none}
 use Rattle.access.proofs.with_condition.Goals as goal
 

@@ -1,6 +1,5 @@
 -- None of the numbers is listed.
 use native.Mathlib.Omega.{arith}
-use borrow.Author.Rules.{rules}
 use Rattle.access.proofs.Listing.{told_none}
 use Rattle.access.proofs.without_counters.Goals as goal
 

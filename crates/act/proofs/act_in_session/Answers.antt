@@ -4,7 +4,6 @@ use Rattle.rules.specs.Access.{seen}
 use Rattle.rules.specs.Operation.{operation}
 use Rattle.act.proofs.Doing.{session_may, session_never, session_by, answered_by, state_set}
 use Rattle.command.proofs.InForm.{parts_there}
-use borrow.Author.Rules.{rules}
 use Rattle.act.proofs.act_in_session.Goals as goal
 
 pub show_byte-requires : goal.show_byte-requires

@@ -1,5 +1,4 @@
 -- `act::show_byte` meets its contract.
-use borrow.Author.Rules.{rules}
 use Rattle.act.proofs.Doing.{byte_count, byte_fits, byte_small, byte_cleared, byte_answered}
 use Rattle.act.proofs.show_byte.Goals as goal
 

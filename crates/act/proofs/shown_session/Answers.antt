@@ -1,6 +1,5 @@
 -- `act::shown_session` meets its contract.
 use mathlib.Core.Bool.{and-false}
-use borrow.Author.Rules.{rules}
 use borrow.Author.Tests.{eq-eqb, ne_eqb, le-leb, lt-leb}
 use Rattle.act.proofs.shown_session.Goals as goal
 

@@ -1,6 +1,5 @@
 -- The sum of the answer's parts.
 use Rattle.answer.proofs.Answering.{answer_sized}
-use borrow.Author.Rules.{rules}
 use Rattle.answer.proofs.answer_size.Goals as goal
 
 pub returns : goal.returns

@@ -1,6 +1,5 @@
 -- An expression is shorter than its slot.
 use Rattle.answer.proofs.Answering.{value_small}
-use borrow.Author.Rules.{rules}
 use mathlib.Core.Path.{ap}
 use lib.ListN.{length}
 use Prim.Native.Nat.{ℕ}

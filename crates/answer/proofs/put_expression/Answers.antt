@@ -1,6 +1,5 @@
 -- The field's bytes are those of the slot's.
 use Rattle.answer.proofs.Answering.{value_small, room_for, expression_put, place_behind}
-use borrow.Author.Rules.{rules}
 use Rattle.answer.proofs.put_expression.Goals as goal
 
 pub put_field-requires : goal.put_field-requires

@@ -1,6 +1,5 @@
 -- The bytes are those of the object's values.
 use Rattle.answer.proofs.Answering.{sizes_put}
-use borrow.Author.Rules.{rules}
 use Rattle.answer.proofs.put_sizes.Goals as goal
 
 pub returns : goal.returns

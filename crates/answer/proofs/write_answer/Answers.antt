@@ -1,6 +1,5 @@
 -- Each part is put behind those before it.
 use Rattle.answer.proofs.Answering.{answer_put}
-use borrow.Author.Rules.{rules}
 use Rattle.answer.proofs.write_answer.Goals as goal
 
 pub returns : goal.returns

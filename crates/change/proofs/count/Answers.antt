@@ -1,6 +1,5 @@
 -- `count`: the lent data part is the counter's bytes, and comes back counted.
 use Rattle.change.proofs.Results.{counter_long, count_by}
-use borrow.Author.Rules.{rules}
 use Rattle.change.proofs.count.Goals as goal
 
 pub count-requires : goal.count-requires

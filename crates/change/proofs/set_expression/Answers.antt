@@ -2,7 +2,6 @@
 use native.Mathlib.Omega.{arith}
 use Rattle.record.proofs.Standing.{slot_in_head}
 use Rattle.change.proofs.Results.{value_small, slot_in, set_expression_by}
-use borrow.Author.Rules.{rules}
 use Rattle.change.proofs.set_expression.Goals as goal
 
 pub overflow_add-at : goal.overflow_add-at

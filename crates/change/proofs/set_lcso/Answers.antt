@@ -1,6 +1,5 @@
 -- `set_lcso`: one byte of the record.
 use Rattle.change.proofs.Results.{set_lcso_by}
-use borrow.Author.Rules.{rules}
 use Rattle.change.proofs.set_lcso.Goals as goal
 
 pub returns : goal.returns

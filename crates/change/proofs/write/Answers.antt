@@ -1,6 +1,5 @@
 -- `write`: the lent data part comes back inside the record, whose used bytes were counted before.
 use Rattle.change.proofs.Results.{write_by}
-use borrow.Author.Rules.{rules}
 use Rattle.change.proofs.write.Goals as goal
 
 pub returns : goal.returns

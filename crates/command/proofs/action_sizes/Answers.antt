@@ -1,5 +1,4 @@
 -- `command::action_sizes` meets its contract.
-use borrow.Author.Rules.{rules}
 use Rattle.command.proofs.action_sizes.Goals as goal
 
 pub returns-in-GetData : goal.returns-in-GetData

@@ -2,7 +2,6 @@
 use mathlib.Core.Path.{refl}
 use Rattle.rules.specs.Command.{asks_flush}
 use Rattle.command.proofs.Parts.{empty_flush}
-use borrow.Author.Rules.{rules}
 use Rattle.command.proofs.asks_flush.Goals as goal
 
 pub returns-then-command-lt1 : goal.returns-then-command-lt1

@@ -2,7 +2,6 @@
 use Rattle.rules.specs.Refusals.{early}
 use Rattle.laws.proofs.Calls.{steps}
 use Rattle.command.proofs.Steps.{sized}
-use borrow.Author.Rules.{rules}
 use Rattle.command.proofs.early.Goals as goal
 
 pub returns-then-unsound : goal.returns-then-unsound

@@ -1,7 +1,6 @@
 -- `command::flushed` meets its contract.
 use Rattle.rules.specs.Step.{flushed}
 use Rattle.laws.proofs.Calls.{choices}
-use borrow.Author.Rules.{rules}
 use Rattle.command.proofs.flushed.Goals as goal
 
 pub returns-then-asks_flush : goal.returns-then-asks_flush

@@ -2,7 +2,6 @@
 use borrow.Author.Tests.{lt-ltb, le-ltb}
 use Rattle.rules.specs.Refusals.{ill_sized}
 use Rattle.command.proofs.Steps.{size_told}
-use borrow.Author.Rules.{rules}
 use Rattle.command.proofs.ill_sized.Goals as goal
 
 pub returns-then-n-lt4 : goal.returns-then-n-lt4

@@ -1,6 +1,5 @@
 -- `command::row_of` meets its contract.
 use Rattle.command.proofs.Table.{other_rows}
-use borrow.Author.Rules.{rules}
 use Rattle.command.proofs.row_of.Goals as goal
 
 pub returns-then-cmd-eq1 : goal.returns-then-cmd-eq1

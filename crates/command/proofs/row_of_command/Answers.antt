@@ -1,6 +1,5 @@
 -- `command::row_of_command` meets its contract.
 use Rattle.command.proofs.Parts.{row_by}
-use borrow.Author.Rules.{rules}
 use Rattle.command.proofs.row_of_command.Goals as goal
 
 pub returns : goal.returns

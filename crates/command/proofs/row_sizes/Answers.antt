@@ -1,5 +1,4 @@
 -- `command::row_sizes` meets its contract.
-use borrow.Author.Rules.{rules}
 use Rattle.command.proofs.row_sizes.Goals as goal
 
 pub returns-in-OnObject : goal.returns-in-OnObject

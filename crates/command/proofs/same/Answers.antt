@@ -1,11 +1,6 @@
 -- `command::same` meets its contract.
-use Prim.Native.Nat.{◌≤◌, ◌-◌}
-use mathlib.Core.Path.{◌≡◌, refl}
-use lib.ListN.{length, drop}
 use native.Mathlib.Omega.{arith}
-use Rattle.rules.specs.Basic.{same}
 use Rattle.command.proofs.Steps.{same_other, same_found, same_turn, same_end}
-use borrow.Author.Rules.{rules}
 use Rattle.command.proofs.same.Goals as goal
 
 pub returns-then-a-b : goal.returns-then-a-b

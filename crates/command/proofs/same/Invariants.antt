@@ -1,10 +1,7 @@
 use Prim.Native.Nat.{◌≤◌, ◌-◌}
-use mathlib.Core.Path.{◌≡◌, refl}
+use mathlib.Core.Path.{◌≡◌}
 use lib.ListN.{length, drop}
-use native.Mathlib.Omega.{arith}
 use Rattle.rules.specs.Basic.{same}
-use Rattle.command.proofs.Steps.{same_other, same_found, same_turn, same_end}
-use borrow.Author.Rules.{rules}
 use Rattle.command.proofs.same.Given as goal
 
 abbrev pub invariant-loop-i : goal.invariant-loop-i

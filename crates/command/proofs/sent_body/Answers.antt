@@ -1,7 +1,6 @@
 -- `command::sent_body` meets its contract.
 use borrow.Author.Rules.{part_to_end}
 use Rattle.rules.specs.Command.{sent_body}
-use borrow.Author.Rules.{rules}
 use Rattle.command.proofs.sent_body.Goals as goal
 
 pub returns : goal.returns

@@ -1,7 +1,6 @@
 -- `command::sent_data` meets its contract.
 use borrow.Author.Rules.{part_to_end}
 use Rattle.rules.specs.Command.{sent_data}
-use borrow.Author.Rules.{rules}
 use Rattle.command.proofs.sent_data.Goals as goal
 
 pub returns : goal.returns

@@ -1,7 +1,6 @@
 -- `command::session_row` meets its contract.
 use Rattle.command.specs.Table.{session_row}
 use Rattle.laws.proofs.Calls.{choices}
-use borrow.Author.Rules.{rules}
 use Rattle.command.proofs.session_row.Goals as goal
 
 pub returns-then-and : goal.returns-then-and

@@ -1,6 +1,5 @@
 -- `command::unknown_cmd` meets its contract.
 use Rattle.rules.specs.Refusals.{unknown_cmd}
-use borrow.Author.Rules.{rules}
 use Rattle.command.proofs.unknown_cmd.Goals as goal
 
 pub returns : goal.returns

@@ -1,6 +1,5 @@
 -- `command::unknown_param` meets its contract.
 use Rattle.command.proofs.Steps.{param_told}
-use borrow.Author.Rules.{rules}
 use Rattle.command.proofs.unknown_param.Goals as goal
 
 pub returns-in-OnObject : goal.returns-in-OnObject

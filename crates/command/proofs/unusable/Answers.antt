@@ -2,7 +2,6 @@
 use borrow.Author.Tests.{eq-eqb}
 use Rattle.rules.specs.Refusals.{unusable}
 use Rattle.command.proofs.Steps.{usable, closed_told}
-use borrow.Author.Rules.{rules}
 use Rattle.command.proofs.unusable.Goals as goal
 
 pub returns-then-session-eq15 : goal.returns-then-session-eq15

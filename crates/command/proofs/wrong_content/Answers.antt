@@ -1,5 +1,4 @@
 -- Only an open has content of its own to be wrong.
-use borrow.Author.Rules.{rules}
 use Rattle.rules.specs.Command.{identifier}
 use Rattle.rules.specs.Hex.{hex, ascii, digits, pairs}
 use Rattle.command.proofs.Steps.{opens_with, no_content}

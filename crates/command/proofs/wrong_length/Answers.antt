@@ -1,6 +1,5 @@
 -- `command::wrong_length` meets its contract.
 use Rattle.command.proofs.Steps.{length_told}
-use borrow.Author.Rules.{rules}
 use Rattle.command.proofs.wrong_length.Goals as goal
 
 pub returns : goal.returns

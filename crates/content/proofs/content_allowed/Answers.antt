@@ -1,11 +1,6 @@
 -- What is left to judge is whether the rest is filled with fields whose tags are above the last.
-use borrow.Author.Rules.{rules}
-use Prim.Native.Nat.{◌-◌}
-use lib.ListN.{length}
-use native.Mathlib.Omega.{arith}
-use Rattle.rules.specs.Metadata.{metadata_allowed}
 use Rattle.reader.proofs.Fields.{value_counted, value_inside, less_left}
-use Rattle.content.proofs.Judging.{Judged, judged_end, judged_broken, judged_falls, judged_refused, judged_next}
+use Rattle.content.proofs.Judging.{judged_end, judged_broken, judged_falls, judged_refused, judged_next}
 use Rattle.content.proofs.Judging.{too_short, not_led, not_filling, by_fields}
 use Rattle.content.proofs.content_allowed.Goals as goal
 

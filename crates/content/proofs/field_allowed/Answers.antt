@@ -1,5 +1,4 @@
 -- Each way out is one of the definition's.
-use borrow.Author.Rules.{rules}
 use Rattle.rules.specs.Metadata.{field, field_allowed}
 use Rattle.expression.proofs.Tests.{tests}
 use Rattle.content.proofs.field_allowed.Goals as goal

@@ -1,10 +1,7 @@
 -- Up to the place, the fields are stored.
-use borrow.Author.Rules.{rules}
-use Prim.Native.Nat.{◌-◌}
-use lib.ListN.{length}
 use Rattle.reader.proofs.Fields.{value_counted, value_inside, less_left}
 use Rattle.change.proofs.Rewritten.{left_length, left_stored}
-use Rattle.content.proofs.Storing.{Going, going_start, going_allowed, going_next, going_end}
+use Rattle.content.proofs.Storing.{going_start, going_allowed, going_next, going_end}
 use Rattle.content.proofs.store_content.Goals as goal
 
 pub loop-tag-init : goal.loop-tag-init

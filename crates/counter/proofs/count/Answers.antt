@@ -1,5 +1,4 @@
 -- The value that the rule gives is written.
-use borrow.Author.Rules.{rules}
 use Rattle.counter.proofs.Bytes.{count_by}
 use Rattle.counter.proofs.count.Goals as goal
 

@@ -1,5 +1,4 @@
 -- Onto the threshold where the step is at least the gap; else each arm is the rule's, and fits.
-use borrow.Author.Rules.{rules}
 use Rattle.counter.proofs.Counting.{reaches, up_fits, down_fits, goes_up, goes_down}
 use Rattle.counter.proofs.counted.Goals as goal
 

@@ -1,5 +1,4 @@
 -- Exhausted where there is no gap.
-use borrow.Author.Rules.{rules}
 use Rattle.counter.proofs.Bytes.{exhausted_by}
 use Rattle.counter.proofs.exhausted.Goals as goal
 

@@ -1,5 +1,4 @@
 -- Each arm is the definition's.
-use borrow.Author.Rules.{rules}
 use Rattle.counter.proofs.Counting.{gap_up, gap_down}
 use Rattle.counter.proofs.gap.Goals as goal
 

@@ -1,7 +1,6 @@
 -- The bytes up to where they are judged next.
 use Rattle.frames.proofs.Judging.{front_length}
 use Rattle.dock.proofs.Parting.{no_room, judged_ahead, taken_there, put_fits, part_collected}
-use borrow.Author.Rules.{rules}
 use Rattle.dock.proofs.collect.Goals as goal
 
 pub returns-then-n-ge-LONGEST : goal.returns-then-n-ge-LONGEST

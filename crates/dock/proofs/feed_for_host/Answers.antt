@@ -1,6 +1,5 @@
 -- What `feed` answers, in numbers.
 use Rattle.dock.proofs.Telling.{host_fed_by}
-use borrow.Author.Rules.{rules}
 use Rattle.dock.proofs.feed_for_host.Goals as goal
 
 pub returns : goal.returns

@@ -1,11 +1,10 @@
 -- What is still to be fed from where the loop stands gives what the whole piece gives.
-use Prim.Native.Nat.{◌≤◌, ◌+◌, ◌-◌}
-use mathlib.Core.Path.{◌≡◌, refl}
+use Prim.Native.Nat.{◌≤◌, ◌+◌}
+use mathlib.Core.Path.{refl}
 use native.Mathlib.Omega.{arith}
-use lib.ListN.{length, drop}
+use lib.ListN.{length}
 use borrow.Author.Rules.{rules}
-use Rattle.frames.specs.Frames.{longest}
-use Rattle.dock.specs.Held.{feeding_from, feeding}
+use Rattle.dock.specs.Held.{feeding}
 use Rattle.dock.proofs.Feeding.{taken_within, kept_size, left_less, feed_on, feed_whole, feed_end}
 use Rattle.dock.proofs.feed_lent.Goals as goal
 

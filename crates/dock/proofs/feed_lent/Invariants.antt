@@ -1,11 +1,8 @@
-use Prim.Native.Nat.{◌≤◌, ◌+◌, ◌-◌}
-use mathlib.Core.Path.{◌≡◌, refl}
-use native.Mathlib.Omega.{arith}
+use Prim.Native.Nat.{◌≤◌, ◌-◌}
+use mathlib.Core.Path.{◌≡◌}
 use lib.ListN.{length, drop}
-use borrow.Author.Rules.{rules}
 use Rattle.frames.specs.Frames.{longest}
 use Rattle.dock.specs.Held.{feeding_from, feeding}
-use Rattle.dock.proofs.Feeding.{taken_within, kept_size, left_less, feed_on, feed_whole, feed_end}
 use Rattle.dock.proofs.feed_lent.Given as goal
 
 abbrev pub invariant-loop-taken : goal.invariant-loop-taken

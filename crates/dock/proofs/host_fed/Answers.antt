@@ -1,6 +1,5 @@
 -- A frame is told where one is whole.
 use Rattle.dock.proofs.Telling.{none_told, whole_told}
-use borrow.Author.Rules.{rules}
 use Rattle.dock.proofs.host_fed.Goals as goal
 
 pub returns-in_default : goal.returns-in_default

@@ -1,6 +1,5 @@
 -- By cases on the stream.
 use Rattle.dock.proofs.Telling.{collecting_told, stopped_told}
-use borrow.Author.Rules.{rules}
 use Rattle.dock.proofs.host_of.Goals as goal
 
 pub returns-in-Collecting : goal.returns-in-Collecting

@@ -1,6 +1,5 @@
 -- Each return is a way through the tests.
 use Rattle.dock.proofs.Parting.{next_else, next_two, next_four, next_whole}
-use borrow.Author.Rules.{rules}
 use Rattle.dock.proofs.next_judged.Goals as goal
 
 pub returns-in_default : goal.returns-in_default

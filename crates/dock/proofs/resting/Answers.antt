@@ -1,6 +1,5 @@
 -- By cases on the stream.
 use Rattle.dock.proofs.Stepping.{resting_collecting, resting_stopped}
-use borrow.Author.Rules.{rules}
 use Rattle.dock.proofs.resting.Goals as goal
 
 pub returns-in-Collecting : goal.returns-in-Collecting

@@ -1,7 +1,6 @@
 -- The numbers of a stream between frames.
 use mathlib.Core.Path.{ap, ◌∙◌}
 use Rattle.dock.specs.Host.{host_of}
-use borrow.Author.Rules.{rules}
 use Rattle.dock.proofs.start_for_host.Goals as goal
 
 pub returns : goal.returns

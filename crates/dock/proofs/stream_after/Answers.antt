@@ -1,6 +1,5 @@
 -- By cases on the step.
 use Rattle.dock.proofs.Stepping.{after_whole, after_not_yet, after_stopped}
-use borrow.Author.Rules.{rules}
 use Rattle.dock.proofs.stream_after.Goals as goal
 
 pub returns-in-Whole : goal.returns-in-Whole

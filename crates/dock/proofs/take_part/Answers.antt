@@ -1,6 +1,5 @@
 -- By cases on the stream.
 use Rattle.dock.proofs.Parting.{part_collects, part_stays}
-use borrow.Author.Rules.{rules}
 use Rattle.dock.proofs.take_part.Goals as goal
 
 pub returns-in-Collecting : goal.returns-in-Collecting

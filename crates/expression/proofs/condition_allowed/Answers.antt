@@ -1,5 +1,4 @@
 -- Each way out is one of the definition's.
-use borrow.Author.Rules.{rules}
 use Rattle.rules.specs.Basic.{all}
 use Rattle.rules.specs.Expression.{names_counter, condition_allowed}
 use Rattle.expression.specs.Conditions.{condition_at}

@@ -1,5 +1,4 @@
 -- Each way out is one of the definition's.
-use borrow.Author.Rules.{rules}
 use Rattle.expression.specs.Conditions.{groups_after}
 use Rattle.expression.proofs.Tests.{tests}
 use Rattle.expression.proofs.groups_after.Goals as goal

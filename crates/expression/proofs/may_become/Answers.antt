@@ -1,5 +1,4 @@
 -- Each way out is one of the definition's.
-use borrow.Author.Rules.{rules}
 use Rattle.rules.specs.Expression.{may_become}
 use Rattle.expression.proofs.Tests.{tests}
 use Rattle.expression.proofs.may_become.Goals as goal

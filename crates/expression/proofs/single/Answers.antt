@@ -1,5 +1,4 @@
 -- The two single bytes of the rules.
-use borrow.Author.Rules.{rules}
 use Rattle.expression.proofs.Forms.{single_by}
 use Rattle.expression.proofs.single.Goals as goal
 

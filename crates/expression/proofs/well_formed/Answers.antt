@@ -1,13 +1,8 @@
 -- What is left to judge is whether the rest fits in the groups that may still come.
-use borrow.Author.Rules.{rules}
-use Prim.Native.Nat.{◌≤◌, ◌-◌}
-use mathlib.Core.Path.{◌≡◌, sym}
-use lib.ListN.{length, drop}
+use mathlib.Core.Path.{sym}
 use native.Mathlib.Omega.{arith}
-use Rattle.rules.specs.Basic.{is_some}
-use Rattle.rules.specs.Expression.{expression}
 use Rattle.expression.proofs.Tests.{calls}
-use Rattle.expression.proofs.Forms.{fits, fits_by, fits_last, fits_none, same_groups, well_formed_joined, well_formed_long, well_formed_one}
+use Rattle.expression.proofs.Forms.{fits_by, fits_last, fits_none, same_groups, well_formed_joined, well_formed_long, well_formed_one}
 use Rattle.expression.proofs.well_formed.Goals as goal
 
 pub returns-then-part-eq1 : goal.returns-then-part-eq1

@@ -1,12 +1,9 @@
 -- `fill`: the front of the store is the records of the first i entries.
-use Prim.Native.Nat.{◌≤◌, ◌-◌}
-use mathlib.Core.List.{◌++◌}
-use mathlib.Core.Path.{◌≡◌, refl}
+use mathlib.Core.Path.{refl}
 use native.Mathlib.Omega.{arith}
-use lib.ListN.{length, drop, length-take, length-drop}
-use borrow.Author.Rules.{rules}
-use Rattle.rules.specs.Layout.{pack, pack_with, size_with}
-use Rattle.factory.specs.Table.{entries, place, first}
+use lib.ListN.{length-take, length-drop}
+use Rattle.rules.specs.Layout.{pack_with, size_with}
+use Rattle.factory.specs.Table.{place, first}
 use Rattle.factory.proofs.Records.{fill_turn, fill_length, fill_end}
 use Rattle.factory.proofs.fill.Goals as goal
 

@@ -1,12 +1,9 @@
 use Prim.Native.Nat.{◌≤◌, ◌-◌}
 use mathlib.Core.List.{◌++◌}
-use mathlib.Core.Path.{◌≡◌, refl}
-use native.Mathlib.Omega.{arith}
-use lib.ListN.{length, drop, length-take, length-drop}
-use borrow.Author.Rules.{rules}
-use Rattle.rules.specs.Layout.{pack, pack_with, size_with}
+use mathlib.Core.Path.{◌≡◌}
+use lib.ListN.{length, drop}
+use Rattle.rules.specs.Layout.{pack}
 use Rattle.factory.specs.Table.{entries, place, first}
-use Rattle.factory.proofs.Records.{fill_turn, fill_length, fill_end}
 use Rattle.factory.proofs.fill.Given as goal
 
 abbrev pub invariant-loop-i : goal.invariant-loop-i

@@ -1,7 +1,6 @@
 -- `make_factory_store`: the size decides.
 use borrow.Author.Tests.{eq-eqb, ne_eqb}
 use Rattle.rules.specs.Factory.{factory_outcome, factory_made}
-use borrow.Author.Rules.{rules}
 use Rattle.factory.proofs.make_factory_store.Goals as goal
 
 pub returns-then-store-ne-STORE : goal.returns-then-store-ne-STORE

@@ -1,5 +1,4 @@
 -- The lent data part comes back with one fare more, before its count of used bytes.
-use borrow.Author.Rules.{rules}
 use Rattle.fares.proofs.Parts.{append_holds, append_inside, append_body, append_number, append_by}
 use Rattle.fares.proofs.append.Goals as goal
 

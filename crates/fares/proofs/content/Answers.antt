@@ -1,5 +1,4 @@
 -- All of the data in use.
-use borrow.Author.Rules.{rules}
 use Rattle.fares.proofs.Judging.{content_by}
 use Rattle.fares.proofs.content.Goals as goal
 

@@ -1,5 +1,4 @@
 -- Each way out is a step of the rule.
-use borrow.Author.Rules.{rules}
 use Rattle.fares.proofs.Judging.{content_sound, acknowledge_no_queue, acknowledge_absent, acknowledge_passes}
 use Rattle.fares.proofs.judge_acknowledge.Goals as goal
 

@@ -1,5 +1,4 @@
 -- Each way out is a step of the rule.
-use borrow.Author.Rules.{rules}
 use Rattle.fares.proofs.Judging.{content_sound, append_no_queue, append_no_room, append_no_number, append_passes}
 use Rattle.fares.proofs.judge_append.Goals as goal
 

@@ -1,7 +1,6 @@
 -- The bytes before the last two, and the number in these.
 use native.Mathlib.Omega.{arith}
 use Rattle.frames.proofs.Judging.{front_length, check_by}
-use borrow.Author.Rules.{rules}
 use Rattle.frames.proofs.check_right.Goals as goal
 
 pub slice_bounds-remainder-end : goal.slice_bounds-remainder-end

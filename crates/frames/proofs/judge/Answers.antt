@@ -1,6 +1,5 @@
 -- By the head, and where it is whole by the check.
 use Rattle.frames.proofs.Judging.{judged_early, judged_whole, judged_bad, whole_long}
-use borrow.Author.Rules.{rules}
 use Rattle.frames.proofs.judge.Goals as goal
 
 pub returns-in_default : goal.returns-in_default

@@ -2,7 +2,6 @@
 use Rattle.frames.specs.Frames.{judged_by_head}
 use Rattle.frames.proofs.Tests.{bounds}
 use Rattle.frames.proofs.Judging.{kind_unknown, frame_early, frame_whole}
-use borrow.Author.Rules.{rules}
 use Rattle.frames.proofs.judge_head.Goals as goal
 
 pub returns-then-n-lt2 : goal.returns-then-n-lt2

@@ -1,6 +1,5 @@
 -- The remainder of a part of the room, behind it.
 use Rattle.frames.proofs.Writing.{check_written}
-use borrow.Author.Rules.{rules}
 use Rattle.frames.proofs.write_check.Goals as goal
 
 pub returns : goal.returns

@@ -1,5 +1,4 @@
 -- What `write_frame` answers, as a number.
-use borrow.Author.Rules.{rules}
 use Rattle.frames.proofs.Writing.{host_writes}
 use Rattle.frames.proofs.write_for_host.Goals as goal
 

@@ -2,7 +2,6 @@
 use Rattle.expression.proofs.Tests.{tests}
 use Rattle.frames.specs.Frames.{writing}
 use Rattle.frames.proofs.Writing.{frame_written}
-use borrow.Author.Rules.{rules}
 use Rattle.frames.proofs.write_frame.Goals as goal
 
 pub returns-then-n-gt-LONGEST_BODY : goal.returns-then-n-gt-LONGEST_BODY

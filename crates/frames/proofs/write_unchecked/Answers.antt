@@ -1,6 +1,5 @@
 -- Length, kind and body, one behind another.
 use Rattle.frames.proofs.Writing.{unchecked_by}
-use borrow.Author.Rules.{rules}
 use Rattle.frames.proofs.write_unchecked.Goals as goal
 
 pub returns : goal.returns

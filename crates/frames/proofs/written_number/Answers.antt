@@ -1,5 +1,4 @@
 -- By cases on the answer.
-use borrow.Author.Rules.{rules}
 use Rattle.frames.proofs.Writing.{wrote_zero, refused_by}
 use Rattle.frames.proofs.written_number.Goals as goal
 

@@ -1,6 +1,5 @@
 -- `judge::and_fits` meets its contract.
 use Rattle.rules.specs.Chain.{◌and_then◌}
-use borrow.Author.Rules.{rules}
 use Rattle.judge.proofs.and_fits.Goals as goal
 
 pub returns-in-Refused : goal.returns-in-Refused

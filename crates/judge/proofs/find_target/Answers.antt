@@ -1,6 +1,5 @@
 -- `judge::find_target` meets its contract.
 use mathlib.Core.Path.{refl}
-use borrow.Author.Rules.{rules}
 use Rattle.rules.specs.Layout.{find}
 use Rattle.rules.specs.Object.{of_session, is, kind_number}
 use Rattle.rules.specs.Session.{session_object, session_objects}

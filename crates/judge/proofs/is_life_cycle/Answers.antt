@@ -1,7 +1,6 @@
 -- `judge::is_life_cycle` meets its contract.
 use Rattle.rules.specs.Object.{is, kind_number}
 use Rattle.judge.proofs.Judging.{kind_by, not_life_cycle}
-use borrow.Author.Rules.{rules}
 use Rattle.judge.proofs.is_life_cycle.Goals as goal
 
 pub returns-in-Data : goal.returns-in-Data

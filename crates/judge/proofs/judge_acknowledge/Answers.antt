@@ -1,6 +1,5 @@
 -- `judge::judge_acknowledge` meets its contract.
 use Rattle.judge.proofs.Judging.{acknowledge_judged}
-use borrow.Author.Rules.{rules}
 use Rattle.judge.proofs.judge_acknowledge.Goals as goal
 
 pub returns : goal.returns

@@ -1,6 +1,5 @@
 -- `judge::judge_append` meets its contract.
 use Rattle.judge.proofs.Judging.{append_judged}
-use borrow.Author.Rules.{rules}
 use Rattle.judge.proofs.judge_append.Goals as goal
 
 pub returns : goal.returns

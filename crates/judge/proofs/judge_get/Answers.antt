@@ -1,5 +1,4 @@
 -- What a get of data reads of the object is what is in use.
-use borrow.Author.Rules.{rules}
 use Rattle.judge.proofs.Judging.{get_judged}
 use Rattle.judge.proofs.judge_get.Goals as goal
 

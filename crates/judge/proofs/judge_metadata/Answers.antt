@@ -2,7 +2,6 @@
 use Rattle.rules.specs.Chain.{◌and_then◌}
 use Rattle.rules.specs.Operation.{operation}
 use Rattle.judge.proofs.Judging.{own_steps, content_told}
-use borrow.Author.Rules.{rules}
 use Rattle.judge.proofs.judge_metadata.Goals as goal
 
 pub returns-then-not-content_allowed : goal.returns-then-not-content_allowed

@@ -1,7 +1,6 @@
 -- `judge::judge_session` meets its contract.
 use Rattle.judge.proofs.Judging.{session_get, session_by}
 use Rattle.command.proofs.InForm.{parts_there}
-use borrow.Author.Rules.{rules}
 use Rattle.judge.proofs.judge_session.Goals as goal
 
 pub judge_get-requires : goal.judge_get-requires

@@ -1,7 +1,6 @@
 -- `judge::judge_state` meets its contract.
 use Rattle.laws.proofs.Calls.{steps_not}
 use Rattle.judge.proofs.Judging.{sent_within, becomes}
-use borrow.Author.Rules.{rules}
 use Rattle.judge.proofs.judge_state.Goals as goal
 
 pub returns-then-not-is_life_cycle : goal.returns-then-not-is_life_cycle

@@ -1,6 +1,5 @@
 -- `judge::judge_write` meets its contract.
 use Rattle.laws.proofs.Calls.{steps_not}
-use borrow.Author.Rules.{rules}
 use Rattle.judge.proofs.judge_write.Goals as goal
 
 pub returns-then-not-write_fits : goal.returns-then-not-write_fits

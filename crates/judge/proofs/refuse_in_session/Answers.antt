@@ -1,6 +1,5 @@
 -- `judge::refuse_in_session` meets its contract.
 use Rattle.laws.proofs.Calls.{steps}
-use borrow.Author.Rules.{rules}
 use Rattle.judge.proofs.refuse_in_session.Goals as goal
 
 pub returns-then-is_life_cycle : goal.returns-then-is_life_cycle

@@ -1,6 +1,5 @@
 -- `judge::write_fits` meets its contract.
 use Rattle.judge.proofs.Judging.{fits_counter, fits_other}
-use borrow.Author.Rules.{rules}
 use Rattle.judge.proofs.write_fits.Goals as goal
 
 pub returns-then-is_counter : goal.returns-then-is_counter

@@ -1,12 +1,9 @@
-use borrow.Author.Rules.{rules}
 use Prim.Native.Nat.{◌≤◌, ◌-◌}
-use mathlib.Core.Path.{◌≡◌, refl}
+use mathlib.Core.Path.{◌≡◌}
 use mathlib.Core.Bool.{◌&&◌}
 use lib.Dec.{eqb}
 use lib.ListN.{length, drop}
-use native.Mathlib.Omega.{arith}
 use Rattle.primitives.specs.Bytes.{all_zero}
-use Rattle.primitives.proofs.Zeros.{zero_on, zero_end}
 use Rattle.primitives.proofs.all_zero.Given as goal
 
 abbrev pub invariant-loop-i : goal.invariant-loop-i

@@ -1,11 +1,8 @@
 use Prim.Native.Nat.{◌≤◌, ◌-◌}
-use mathlib.Core.Path.{◌≡◌, refl}
+use mathlib.Core.Path.{◌≡◌}
 use mathlib.Core.List.{◌++◌}
-use lib.ListN.{length, drop, length-set}
-use native.Mathlib.Omega.{arith}
+use lib.ListN.{length, drop}
 use Rattle.rules.specs.Basic.{zeros}
-use Rattle.primitives.proofs.Over.{clear_turn, clear_end}
-use borrow.Author.Rules.{rules}
 use Rattle.primitives.proofs.clear.Given as goal
 
 abbrev pub invariant-loop-i : goal.invariant-loop-i

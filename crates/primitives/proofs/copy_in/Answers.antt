@@ -1,10 +1,6 @@
 -- `primitives::copy_in` meets its contract.
-use Prim.Native.Nat.{◌≤◌, ◌-◌}
-use mathlib.Core.Path.{◌≡◌, refl}
-use mathlib.Core.List.{◌++◌}
-use lib.ListN.{length, take, drop, length-set}
+use lib.ListN.{length-set}
 use native.Mathlib.Omega.{arith}
-use borrow.Author.Rules.{rules}
 use Rattle.primitives.proofs.Over.{copy_turn, copy_end}
 use Rattle.primitives.proofs.copy_in.Goals as goal
 

@@ -1,7 +1,5 @@
 -- The two bytes are below 256, so the sum fits.
 use borrow.Author.Rules.{rules}
-use Prim.Native.Nat.{◌+◌}
-use native.Mathlib.Omega.{arith}
 use Rattle.rules.specs.Basic.{little_endian_at}
 use Rattle.primitives.proofs.little_endian_at.Goals as goal
 

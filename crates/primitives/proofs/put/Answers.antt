@@ -1,6 +1,5 @@
 -- `primitives::put` meets its contract.
 use Rattle.primitives.proofs.Over.{put_whole}
-use borrow.Author.Rules.{rules}
 use Rattle.primitives.proofs.put.Goals as goal
 
 pub returns : goal.returns

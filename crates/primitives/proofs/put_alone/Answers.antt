@@ -1,5 +1,4 @@
 -- The put's own contract, over the zeros.
-use borrow.Author.Rules.{rules}
 use Rattle.primitives.proofs.Over.{put_over}
 use Rattle.primitives.proofs.put_alone.Goals as goal
 

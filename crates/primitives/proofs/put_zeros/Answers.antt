@@ -1,6 +1,5 @@
 -- `primitives::put_zeros` meets its contract.
 use Rattle.primitives.proofs.Over.{put_zeros}
-use borrow.Author.Rules.{rules}
 use Rattle.primitives.proofs.put_zeros.Goals as goal
 
 pub returns : goal.returns

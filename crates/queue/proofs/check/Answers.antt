@@ -1,11 +1,7 @@
 -- What is left to judge is whether the fares from `at` on are numbered from `number` up to just below `next`.
-use Prim.Native.Nat.{◌≤◌, ◌-◌}
-use lib.ListN.{length, drop}
 use native.Mathlib.Omega.{arith}
-use Rattle.rules.specs.Basic.{is_some}
-use Rattle.rules.specs.Queue.{queue}
 use borrow.Author.Rules.{rules}
-use Rattle.queue.proofs.Checking.{Left, too_short, first_past, from_start, no_fare, size_inside, stays, go_on, at_end}
+use Rattle.queue.proofs.Checking.{too_short, first_past, from_start, no_fare, size_inside, stays, go_on, at_end}
 use Rattle.queue.proofs.check.Goals as goal
 
 pub returns-then-content-lt-FARES : goal.returns-then-content-lt-FARES

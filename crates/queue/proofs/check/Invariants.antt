@@ -1,10 +1,8 @@
 use Prim.Native.Nat.{◌≤◌, ◌-◌}
 use lib.ListN.{length, drop}
-use native.Mathlib.Omega.{arith}
 use Rattle.rules.specs.Basic.{is_some}
 use Rattle.rules.specs.Queue.{queue}
-use borrow.Author.Rules.{rules}
-use Rattle.queue.proofs.Checking.{Left, too_short, first_past, from_start, no_fare, size_inside, stays, go_on, at_end}
+use Rattle.queue.proofs.Checking.{Left}
 use Rattle.queue.proofs.check.Given as goal
 
 abbrev pub invariant-loop-number : goal.invariant-loop-number

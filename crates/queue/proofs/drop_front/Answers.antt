@@ -1,5 +1,4 @@
 -- What is left, then zeros.
-use borrow.Author.Rules.{rules}
 use Rattle.queue.proofs.Results.{kept_is, drop_by}
 use Rattle.queue.proofs.drop_front.Goals as goal
 

@@ -1,8 +1,5 @@
 -- What is left to search is the fares from `at` on.
-use Prim.Native.Nat.{◌-◌}
-use lib.ListN.{length}
-use borrow.Author.Rules.{rules}
-use Rattle.queue.proofs.Search.{Ahead, start, size_in, number_in, falls, found_here, go_on, search_end}
+use Rattle.queue.proofs.Search.{start, size_in, number_in, falls, found_here, go_on, search_end}
 use Rattle.queue.proofs.fare_end.Goals as goal
 
 pub loop-at-init : goal.loop-at-init

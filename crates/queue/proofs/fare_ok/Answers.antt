@@ -1,7 +1,6 @@
 -- Each way out is one of the tests.
 use Rattle.rules.specs.Basic.{all}
 use Rattle.expression.proofs.Tests.{calls}
-use borrow.Author.Rules.{rules}
 use Rattle.queue.specs.Fares.{whole_fare}
 use Rattle.queue.proofs.Fares.{as_eqb}
 use Rattle.queue.proofs.fare_ok.Goals as goal

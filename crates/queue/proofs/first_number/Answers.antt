@@ -1,6 +1,5 @@
 -- Each way out is one of the tests.
 use Rattle.expression.proofs.Tests.{tests}
-use borrow.Author.Rules.{rules}
 use Rattle.queue.specs.Fares.{first_number}
 use Rattle.queue.proofs.first_number.Goals as goal
 

@@ -1,5 +1,4 @@
 -- Present from the first number up to just below the next.
-use borrow.Author.Rules.{rules}
 use Rattle.queue.proofs.Checking.{below_first, from_first}
 use Rattle.queue.proofs.Search.{head_long}
 use Rattle.queue.proofs.is_present.Goals as goal

@@ -3,7 +3,6 @@ use Rattle.rules.specs.Basic.{all}
 use Rattle.expression.proofs.Tests.{tests}
 use Rattle.record.specs.Records.{body_allowed}
 use Rattle.record.proofs.Records.{kind_by, used_by}
-use borrow.Author.Rules.{rules}
 use Rattle.record.proofs.body_ok.Goals as goal
 
 pub returns-then-not-kind_ok : goal.returns-then-not-kind_ok

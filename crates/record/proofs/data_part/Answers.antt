@@ -1,5 +1,4 @@
 -- The part is of the data in use.
-use borrow.Author.Rules.{rules}
 use Rattle.record.proofs.Parts.{data_lent}
 use Rattle.record.proofs.data_part.Goals as goal
 

@@ -1,5 +1,4 @@
 -- The kind's number is that of a counter down, or not.
-use borrow.Author.Rules.{rules}
 use Rattle.record.proofs.Records.{down_by, up_by}
 use Rattle.record.proofs.direction.Goals as goal
 

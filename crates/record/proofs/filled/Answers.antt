@@ -1,5 +1,4 @@
 -- The expression, then the zeros.
-use borrow.Author.Rules.{rules}
 use Rattle.expression.proofs.Tests.{no_call, go_call}
 use Rattle.record.specs.Records.{filled}
 use Rattle.record.proofs.filled.Goals as goal

@@ -3,7 +3,6 @@ use Rattle.rules.specs.Basic.{all}
 use Rattle.expression.proofs.Tests.{calls}
 use Rattle.record.specs.Records.{head_allowed}
 use Rattle.record.proofs.Records.{head_tests}
-use borrow.Author.Rules.{rules}
 use Rattle.record.proofs.head_ok.Goals as goal
 
 pub returns-then-n-lt-SHORTEST : goal.returns-then-n-lt-SHORTEST

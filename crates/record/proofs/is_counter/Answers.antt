@@ -1,5 +1,4 @@
 -- The kind's number is one of the two.
-use borrow.Author.Rules.{rules}
 use Rattle.record.proofs.Records.{counter_by}
 use Rattle.record.proofs.is_counter.Goals as goal
 

@@ -1,5 +1,4 @@
 -- The kind's number is that of a queue.
-use borrow.Author.Rules.{rules}
 use Rattle.record.proofs.Records.{queue_by}
 use Rattle.record.proofs.is_queue.Goals as goal
 

@@ -1,5 +1,4 @@
 -- The kind's number is that of a counter up.
-use borrow.Author.Rules.{rules}
 use Rattle.record.proofs.Records.{up_counter_by}
 use Rattle.record.proofs.is_up_counter.Goals as goal
 

@@ -4,7 +4,6 @@ use Rattle.rules.specs.declared.Kind.TheVariants.{Data, Counter, Queue}
 use Rattle.rules.specs.declared.Direction.TheVariants.{Up, Down}
 use Rattle.rules.specs.Object.{kind_number, read_kind, data_allowed}
 use Rattle.expression.proofs.Tests.{tests}
-use borrow.Author.Rules.{rules}
 use Rattle.record.proofs.Records.{read_as, read_none}
 use Rattle.record.proofs.kind_ok.Goals as goal
 

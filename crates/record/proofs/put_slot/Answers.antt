@@ -1,6 +1,5 @@
 -- Three parts, each right behind the one before.
 use Rattle.record.proofs.Slots.{put_by}
-use borrow.Author.Rules.{rules}
 use Rattle.record.proofs.put_slot.Goals as goal
 
 pub returns : goal.returns

@@ -1,7 +1,6 @@
 -- Each way out is one of the tests.
 use mathlib.Core.Path.{ap}
 use mathlib.Core.Bool.{not}
-use borrow.Author.Rules.{rules}
 use Rattle.expression.proofs.Tests.{tests}
 use Rattle.record.proofs.Records.{record_by, head_gives}
 use Rattle.record.proofs.record_ok.Goals as goal

@@ -1,5 +1,4 @@
 -- Each slot's arm is the definition's.
-use borrow.Author.Rules.{rules}
 use mathlib.Core.Path.{sym, ap}
 use Rattle.rules.specs.Layout.{slot_at, slot_at_with}
 use Rattle.record.proofs.slot_at.Goals as goal

@@ -1,7 +1,5 @@
 -- Each way out is one of the tests.
-use borrow.Author.Rules.{rules}
 use borrow.Author.Tests.{le-leb}
-use native.Mathlib.Omega.{arith}
 use Rattle.record.proofs.Slots.{slot_by, slot_long}
 use Rattle.record.proofs.slot_ok.Goals as goal
 

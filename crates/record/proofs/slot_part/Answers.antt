@@ -1,5 +1,4 @@
 -- The slot of a record that stands there holds the expression.
-use borrow.Author.Rules.{rules}
 use native.Mathlib.Omega.{arith}
 use Rattle.record.proofs.Parts.{slot_fits, slot_lent}
 use Rattle.record.proofs.slot_part.Goals as goal

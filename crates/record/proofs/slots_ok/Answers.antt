@@ -1,12 +1,9 @@
 -- `slots_ok`: what is left of the three slots decides.
-use Prim.Native.Nat.{◌+◌, ◌*◌, ◌≤◌}
-use mathlib.Core.Path.{◌≡◌, refl}
+use mathlib.Core.Path.{refl}
 use native.Mathlib.Omega.{arith}
 use borrow.Author.Rules.{rules}
-use lib.ListN.{length}
 use Rattle.rules.specs.Basic.{all}
-use Rattle.rules.specs.Layout.{slot_size, head_size}
-use Rattle.record.specs.Records.{slots_allowed, slots_from}
+use Rattle.record.specs.Records.{slots_allowed}
 use Rattle.record.proofs.Slots.{slots_stop, slots_on, slots_end}
 use Rattle.record.proofs.slots_ok.Goals as goal
 

@@ -1,12 +1,8 @@
 use Prim.Native.Nat.{◌+◌, ◌*◌, ◌≤◌}
-use mathlib.Core.Path.{◌≡◌, refl}
-use native.Mathlib.Omega.{arith}
-use borrow.Author.Rules.{rules}
+use mathlib.Core.Path.{◌≡◌}
 use lib.ListN.{length}
-use Rattle.rules.specs.Basic.{all}
 use Rattle.rules.specs.Layout.{slot_size, head_size}
 use Rattle.record.specs.Records.{slots_allowed, slots_from}
-use Rattle.record.proofs.Slots.{slots_stop, slots_on, slots_end}
 use Rattle.record.proofs.slots_ok.Given as goal
 
 abbrev pub invariant-loop-left : goal.invariant-loop-left

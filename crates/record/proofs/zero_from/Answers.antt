@@ -1,5 +1,4 @@
 -- The last bytes, then those before them.
-use borrow.Author.Rules.{rules}
 use Rattle.record.proofs.Slots.{last_not, last_zero}
 use Rattle.record.proofs.zero_from.Goals as goal
 

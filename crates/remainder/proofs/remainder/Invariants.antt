@@ -1,10 +1,7 @@
 use Prim.Native.Nat.{◌≤◌, ◌-◌}
-use mathlib.Core.Path.{◌≡◌, refl}
-use native.Mathlib.Omega.{arith}
+use mathlib.Core.Path.{◌≡◌}
 use lib.ListN.{length, drop}
 use Rattle.remainder.specs.Remainder.{remainder_from, remainder}
-use Rattle.remainder.proofs.Passing.{remainder_on, remainder_end}
-use borrow.Author.Rules.{rules}
 use Rattle.remainder.proofs.remainder.Given as goal
 
 abbrev pub invariant-loop-i : goal.invariant-loop-i

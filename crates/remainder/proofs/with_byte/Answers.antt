@@ -1,6 +1,5 @@
 -- Eight steps of a number are those of its low byte, with its high byte.
 use Rattle.remainder.proofs.Entries.{with_byte_by}
-use borrow.Author.Rules.{rules}
 use Rattle.remainder.proofs.with_byte.Goals as goal
 
 pub returns : goal.returns

@@ -1,11 +1,7 @@
 -- `runs::run` meets its contract.
-use Prim.Native.Nat.{◌-◌}
 use native.Mathlib.Omega.{arith}
-use lib.ListN.{length, length-set}
-use Rattle.runs.specs.Lists.{lent}
-use Rattle.runs.proofs.Cutting.{Loop}
+use lib.ListN.{length-set}
 use Rattle.runs.proofs.Cutting.{loop_entered as entered, loop_again as again, loop_over as over}
-use borrow.Author.Rules.{rules}
 use Rattle.runs.proofs.run.Goals as goal
 
 pub loop-i-init : goal.loop-i-init

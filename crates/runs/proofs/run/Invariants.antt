@@ -1,10 +1,7 @@
 use Prim.Native.Nat.{◌-◌}
-use native.Mathlib.Omega.{arith}
-use lib.ListN.{length, length-set}
+use lib.ListN.{length}
 use Rattle.runs.specs.Lists.{lent}
 use Rattle.runs.proofs.Cutting.{Loop}
-use Rattle.runs.proofs.Cutting.{loop_entered as entered, loop_again as again, loop_over as over}
-use borrow.Author.Rules.{rules}
 use Rattle.runs.proofs.run.Given as goal
 
 abbrev pub invariant-loop-i : goal.invariant-loop-i

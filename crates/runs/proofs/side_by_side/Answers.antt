@@ -1,6 +1,5 @@
 -- `runs::side_by_side` meets its contract.
 use Rattle.runs.proofs.Demand3.{three_runs}
-use borrow.Author.Rules.{rules}
 use Rattle.runs.proofs.side_by_side.Goals as goal
 
 pub returns : goal.returns

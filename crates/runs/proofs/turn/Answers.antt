@@ -1,6 +1,5 @@
 -- `runs::turn` meets its contract.
 use Rattle.runs.proofs.Cutting.{put_back}
-use borrow.Author.Rules.{rules}
 use Rattle.runs.proofs.turn.Goals as goal
 
 pub returns : goal.returns

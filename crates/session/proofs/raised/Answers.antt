@@ -2,7 +2,6 @@
 use native.Mathlib.Nat.{max-eq_left, max-eq_right, le_of_lt}
 use Rattle.rules.specs.Session.{with_error}
 use Rattle.rules.specs.Step.{raised}
-use borrow.Author.Rules.{rules}
 use Rattle.session.proofs.raised.Goals as goal
 
 pub returns-then-session-code : goal.returns-then-session-code

@@ -1,7 +1,6 @@
 -- `session::with_state` meets its contract.
 use borrow.Author.Tests.{eq-eqb, ne_eqb}
 use Rattle.rules.specs.Session.{with_state}
-use borrow.Author.Rules.{rules}
 use Rattle.session.proofs.with_state.Goals as goal
 
 pub returns-then-number-eq57536 : goal.returns-then-number-eq57536

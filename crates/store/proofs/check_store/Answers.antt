@@ -1,14 +1,9 @@
 -- What is left to judge is whether the rest is records with numbers from `least` on.
-use borrow.Author.Rules.{rules}
 use borrow.Author.Tests.{le-leb, lt-leb}
-use Prim.Native.Nat.{◌≤◌}
-use mathlib.Core.Path.{◌≡◌}
-use lib.ListN.{length}
 use native.Mathlib.Omega.{arith}
-use Rattle.rules.specs.Basic.{all, is_some}
-use Rattle.rules.specs.Layout.{unpack}
+use Rattle.rules.specs.Basic.{all}
 use Rattle.expression.proofs.Tests.{no, go, no_call, go_call, is_leb, isnt_leb, wrong_leb}
-use Rattle.store.proofs.Checking.{records_at, records_by, records_last, records_on, records_end, same_record, record_stored, store_joined, store_long}
+use Rattle.store.proofs.Checking.{records_by, records_last, records_on, records_end, same_record, record_stored, store_joined, store_long}
 use Rattle.store.proofs.check_store.Goals as goal
 
 pub returns-then-store-gt-BYTES : goal.returns-then-store-gt-BYTES

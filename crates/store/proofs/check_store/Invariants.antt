@@ -1,13 +1,9 @@
-use borrow.Author.Rules.{rules}
-use borrow.Author.Tests.{le-leb, lt-leb}
 use Prim.Native.Nat.{◌≤◌}
 use mathlib.Core.Path.{◌≡◌}
 use lib.ListN.{length}
-use native.Mathlib.Omega.{arith}
-use Rattle.rules.specs.Basic.{all, is_some}
+use Rattle.rules.specs.Basic.{is_some}
 use Rattle.rules.specs.Layout.{unpack}
-use Rattle.expression.proofs.Tests.{no, go, no_call, go_call, is_leb, isnt_leb, wrong_leb}
-use Rattle.store.proofs.Checking.{records_at, records_by, records_last, records_on, records_end, same_record, record_stored, store_joined, store_long}
+use Rattle.store.proofs.Checking.{records_at}
 use Rattle.store.proofs.check_store.Given as goal
 
 abbrev pub invariant-loop-left : goal.invariant-loop-left

@@ -1,8 +1,5 @@
 -- What is left to search is the way from `at` on.
-use borrow.Author.Rules.{rules}
-use Prim.Native.Nat.{◌-◌}
-use lib.ListN.{length}
-use Rattle.store.proofs.Search.{Ahead, start, here_stored, found_here, passed, go_on, search_end}
+use Rattle.store.proofs.Search.{start, here_stored, found_here, passed, go_on, search_end}
 use Rattle.store.proofs.find_record.Goals as goal
 
 pub loop-at-init : goal.loop-at-init

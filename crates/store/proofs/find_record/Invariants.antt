@@ -1,7 +1,6 @@
-use borrow.Author.Rules.{rules}
 use Prim.Native.Nat.{◌-◌}
 use lib.ListN.{length}
-use Rattle.store.proofs.Search.{Ahead, start, here_stored, found_here, passed, go_on, search_end}
+use Rattle.store.proofs.Search.{Ahead}
 use Rattle.store.proofs.find_record.Given as goal
 
 abbrev pub invariant-loop-at : goal.invariant-loop-at

@@ -1,10 +1,6 @@
 -- What is left to look through are the numbers from i on.
-use borrow.Author.Rules.{rules, length_unmapped}
-use Prim.Native.Nat.{◌-◌, ◌≤◌}
-use mathlib.Core.Path.{◌≡◌}
+use borrow.Author.Rules.{length_unmapped}
 use native.Mathlib.Omega.{arith}
-use lib.ListN.{take, drop}
-use Rattle.rules.specs.Basic.{among}
 use Rattle.usage.proofs.Steps.{listed_start, listed_here, listed_on, listed_end}
 use Rattle.usage.proofs.listed_before.Goals as goal
 

@@ -1,10 +1,7 @@
-use borrow.Author.Rules.{rules, length_unmapped}
 use Prim.Native.Nat.{◌-◌, ◌≤◌}
 use mathlib.Core.Path.{◌≡◌}
-use native.Mathlib.Omega.{arith}
 use lib.ListN.{take, drop}
 use Rattle.rules.specs.Basic.{among}
-use Rattle.usage.proofs.Steps.{listed_start, listed_here, listed_on, listed_end}
 use Rattle.usage.proofs.listed_before.Given as goal
 
 abbrev pub invariant-loop-i : goal.invariant-loop-i

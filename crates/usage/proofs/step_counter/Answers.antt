@@ -1,5 +1,4 @@
 -- The record is found where the store says, and a counter up is counted there.
-use borrow.Author.Rules.{rules}
 use Rattle.laws.proofs.Fitting.{up_is_counter}
 use Rattle.store.proofs.Ways.{sound_leads}
 use Rattle.usage.proofs.Steps.{answered, step_nothing, step_stored, step_counted, step_other}

@@ -1,5 +1,4 @@
 -- A number that stands before is passed over.
-use borrow.Author.Rules.{rules}
 use Rattle.usage.proofs.Steps.{answered, listed_again, listed_first}
 use Rattle.usage.proofs.step_listed.Goals as goal
 

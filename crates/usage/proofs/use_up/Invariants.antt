@@ -1,13 +1,10 @@
-use borrow.Author.Rules.{rules, length_unmapped}
 use Prim.Native.Nat.{◌-◌, ◌≤◌}
 use mathlib.Core.List.{[]}
-use mathlib.Core.Path.{◌≡◌, refl}
-use native.Mathlib.Omega.{arith}
+use mathlib.Core.Path.{◌≡◌}
 use lib.ListN.{length, take}
 use Rattle.rules.specs.Basic.{or_else}
 use Rattle.rules.specs.Layout.{pack, unpack}
 use Rattle.rules.specs.Access.{all_used_up}
-use Rattle.usage.proofs.Steps.{use_start, use_sound, use_on, use_end}
 use Rattle.usage.proofs.use_up.Given as goal
 
 abbrev pub invariant-loop-place : goal.invariant-loop-place
