@@ -200,7 +200,7 @@ fn both_forms_are_the_same() {
 }
 
 /// What stands in the library, and another text in its place.
-const EDITS: [(&str, &str); 17] = [
+const EDITS: [(&str, &str); 18] = [
     (r#"{"Lt":"Unsigned"}"#, r#"{"Le":"Unsigned"}"#),
     (r#"{"Lt":"Unsigned"}"#, r#"{"Lt":"Signed"}"#),
     (r#""value":2000"#, r#""value":2001"#),
@@ -213,6 +213,7 @@ const EDITS: [(&str, &str); 17] = [
         r#""Bool","home":"MemorySlot""#,
     ),
     (r#""params":2"#, r#""params":1"#),
+    (r#""bounds":[],"method_of""#, r#""bounds":[0],"method_of""#),
     (
         r#""lifetimes":0,"outlives":[]"#,
         r#""lifetimes":1,"outlives":[]"#,
