@@ -1,7 +1,7 @@
 /*
  * The dock stream, in portable C99: what dock.h declares.
  *
- * Made by port/translate (`make c`) from the MIR that `rt mir firmware` prints, with rattle-kit-5b-plain logic 097e4c862dff5811.
+ * Made by port/translate (`make c`) from the MIR that the proved crates hold, with rattle-kit-13f logic dac8208d650f15bf.
  * Do not edit it. Each function but the last ones is a function of that MIR, a statement for a statement.
  *
  * That MIR is proved for every input. Not proved: this translation of it, the C compiler, and sizes behind references, which lie in C as

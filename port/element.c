@@ -1,7 +1,7 @@
 /*
  * The secure element's object store, in portable C99: what element.h declares.
  *
- * Made by port/translate (`make c`) from the MIR that `rt mir firmware` prints, with rattle-kit-5b-plain logic 097e4c862dff5811.
+ * Made by port/translate (`make c`) from the MIR that the proved crates hold, with rattle-kit-13f logic dac8208d650f15bf.
  * Do not edit it. Each function but the last ones is a function of that MIR, a statement for a statement.
  *
  * That MIR is proved for every input. Not proved: this translation of it, the C compiler, and sizes behind references, which lie in C as
@@ -138,10 +138,6 @@ typedef struct rules__Row {
         } v0;
     } as;
 } rules__Row;
-
-typedef struct array_u8_16 {
-    uint8_t at[16];
-} array_u8_16;
 
 /* rules::Found */
 typedef struct rules__Found {
@@ -3703,40 +3699,41 @@ static bool command__wrong_content(slice_u8 v1)
 {
     bool result;
     rules__Row v2;
-    array_u8_16 v3;
+    bool v3;
     bool v4;
-    bool v5;
+    const uint8_t *v5;
     const uint8_t *v6;
     slice_u8 v7;
     const uint8_t *v8;
     usize v9;
     const uint8_t *v10;
     slice_u8 v11;
-    v3 = (array_u8_16){ { 210u, 118u, 0u, 0u, 4u, 71u, 101u, 110u, 65u, 117u, 116u, 104u, 65u, 112u, 112u, 108u } };
+    static const uint8_t lent1[16] = { 210u, 118u, 0u, 0u, 4u, 71u, 101u, 110u, 65u, 117u, 116u, 104u, 65u, 112u, 112u, 108u };
     v2 = command__row_of_command(v1);
     switch (v2.tag) {
     case 0u:
-        v4 = false;
+        v3 = false;
         break;
     case 1u:
-        v6 = v3.at;
+        v5 = lent1;
+        v6 = v5;
         v7 = (slice_u8){ .at = v6, .length = 16u };
         v8 = v1.at + 4u;
         v9 = v1.length - 4u;
         v10 = v8;
         v11 = (slice_u8){ .at = v10, .length = v9 };
-        v5 = command__same(v7, v11);
-        v4 = !v5;
+        v4 = command__same(v7, v11);
+        v3 = !v4;
         break;
     case 2u:
-        v4 = false;
+        v3 = false;
         break;
     case 3u:
     default:
-        v4 = false;
+        v3 = false;
         break;
     }
-    result = v4;
+    result = v3;
     return result;
 }
 
@@ -5818,7 +5815,8 @@ static rules__Session runs__run(slice_u8 v1, slice_usize v2, slice_mut_u8 v3, ru
     slice_mut_u8 v19;
     uint8_t *v20;
     slice_mut_u8 v21;
-    uint8_t *v22;
+    uint8_t v22;
+    uint8_t *v23;
     v8 = v4;
     v9 = 0u;
     v10 = 0u;
@@ -5840,8 +5838,9 @@ static rules__Session runs__run(slice_u8 v1, slice_usize v2, slice_mut_u8 v3, ru
         v20 = v5.at;
         v21 = (slice_mut_u8){ .at = v20, .length = v5.length };
         v14 = runs__turn(v1, v9, v12, v19, v8, v21, v10, v13);
-        v22 = v7.at + v11;
-        *v22 = v14.f0;
+        v22 = v14.f0;
+        v23 = v7.at + v11;
+        *v23 = v22;
         v8 = v14.f1;
         v9 = v9 + v12;
         v10 = v10 + v13;
@@ -5974,13 +5973,15 @@ static firmware__HostAnswer firmware__execute_for_host(slice_u8 v1, slice_mut_u8
     uint8_t *v9;
     slice_mut_u8 v10;
     element_session v11;
+    rules__Session v12;
     v6 = v2.at;
     v7 = (slice_mut_u8){ .at = v6, .length = v2.length };
     v8 = firmware__session_of(v3);
     v9 = v4.at;
     v10 = (slice_mut_u8){ .at = v9, .length = v4.length };
     v5 = element__execute(v1, v7, v8, v10);
-    v11 = firmware__bytes_of(v3, v5.f1);
+    v12 = v5.f1;
+    v11 = firmware__bytes_of(v3, v12);
     result = (firmware__HostAnswer){ .f0 = v5.f0, .f1 = v11 };
     return result;
 }
@@ -5995,13 +5996,15 @@ static uint8_t firmware__element_execute(slice_u8 v1, slice_mut_u8 v2, element_s
     slice_mut_u8 v8;
     uint8_t *v9;
     slice_mut_u8 v10;
+    element_session v11;
     v5 = *v3;
     v7 = v2.at;
     v8 = (slice_mut_u8){ .at = v7, .length = v2.length };
     v9 = v4.at;
     v10 = (slice_mut_u8){ .at = v9, .length = v4.length };
     v6 = firmware__execute_for_host(v1, v8, v5, v10);
-    *v3 = v6.f1;
+    v11 = v6.f1;
+    *v3 = v11;
     result = v6.f0;
     return result;
 }
@@ -6061,6 +6064,7 @@ static uint8_t firmware__element_run(slice_u8 v1, slice_usize v2, slice_mut_u8 v
     slice_mut_u8 v13;
     uint8_t *v14;
     slice_mut_u8 v15;
+    element_session v16;
     v8 = *v4;
     v10 = v3.at;
     v11 = (slice_mut_u8){ .at = v10, .length = v3.length };
@@ -6069,7 +6073,8 @@ static uint8_t firmware__element_run(slice_u8 v1, slice_usize v2, slice_mut_u8 v
     v14 = v7.at;
     v15 = (slice_mut_u8){ .at = v14, .length = v7.length };
     v9 = firmware__run_for_host(v1, v2, v11, v8, v13, v6, v15);
-    *v4 = v9.f1;
+    v16 = v9.f1;
+    *v4 = v16;
     result = v9.f0;
     return result;
 }

@@ -199,44 +199,47 @@ fn both_forms_are_the_same() {
     assert_eq!(compared(HELD, &terms.0), Ok(None));
 }
 
+/// What stands in the library, and another text in its place.
+const EDITS: [(&str, &str); 18] = [
+    (r#"{"Lt":"Unsigned"}"#, r#"{"Le":"Unsigned"}"#),
+    (r#"{"Lt":"Unsigned"}"#, r#"{"Lt":"Signed"}"#),
+    (r#""value":2000"#, r#""value":2001"#),
+    (
+        r#"{"local":1,"steps":[]}},{"#,
+        r#"{"local":2,"steps":[]}},{"#,
+    ),
+    (
+        r#""Bool","home":"ValueLocal""#,
+        r#""Bool","home":"MemorySlot""#,
+    ),
+    (r#""params":2"#, r#""params":1"#),
+    (r#""bounds":[],"method_of""#, r#""bounds":[0],"method_of""#),
+    (
+        r#""lifetimes":0,"outlives":[]"#,
+        r#""lifetimes":1,"outlives":[]"#,
+    ),
+    (
+        r#""lifetimes":0,"outlives":[]"#,
+        r#""lifetimes":0,"outlives":[[0,1]]"#,
+    ),
+    (r#""Return","Skip""#, r#""Skip","Skip""#),
+    (r#""values":[5,6]"#, r#""values":[5,7]"#),
+    (r#"[[7,8]],true]"#, r#"[[7,9]],true]"#),
+    (r#"{"Field":1}"#, r#"{"Field":2}"#),
+    (r#"{"Variant":0}"#, r#"{"Variant":1}"#),
+    (r#"{"Fields":[{"Int":64}]}"#, r#"{"Fields":[{"Int":32}]}"#),
+    (
+        r#"{"Fields":[{"Int":64}]}"#,
+        r#"{"Variants":[[{"Int":64}]]}"#,
+    ),
+    (r#"["Erased","Imm""#, r#"["Erased","Mut""#),
+    (r#""value":1}}"#, r#""value":0}}"#),
+];
+
 #[test]
 fn an_edit_of_the_library() {
     let terms = Terms::new("held", MIR);
-    let edits = [
-        (r#"{"Lt":"Unsigned"}"#, r#"{"Le":"Unsigned"}"#),
-        (r#"{"Lt":"Unsigned"}"#, r#"{"Lt":"Signed"}"#),
-        (r#""value":2000"#, r#""value":2001"#),
-        (
-            r#"{"local":1,"steps":[]}},{"#,
-            r#"{"local":2,"steps":[]}},{"#,
-        ),
-        (
-            r#""Bool","home":"ValueLocal""#,
-            r#""Bool","home":"MemorySlot""#,
-        ),
-        (r#""params":2"#, r#""params":1"#),
-        (
-            r#""lifetimes":0,"outlives":[]"#,
-            r#""lifetimes":1,"outlives":[]"#,
-        ),
-        (
-            r#""lifetimes":0,"outlives":[]"#,
-            r#""lifetimes":0,"outlives":[[0,1]]"#,
-        ),
-        (r#""Return","Skip""#, r#""Skip","Skip""#),
-        (r#""values":[5,6]"#, r#""values":[5,7]"#),
-        (r#"[[7,8]],true]"#, r#"[[7,9]],true]"#),
-        (r#"{"Field":1}"#, r#"{"Field":2}"#),
-        (r#"{"Variant":0}"#, r#"{"Variant":1}"#),
-        (r#"{"Fields":[{"Int":64}]}"#, r#"{"Fields":[{"Int":32}]}"#),
-        (
-            r#"{"Fields":[{"Int":64}]}"#,
-            r#"{"Variants":[[{"Int":64}]]}"#,
-        ),
-        (r#"["Erased","Imm""#, r#"["Erased","Mut""#),
-        (r#""value":1}}"#, r#""value":0}}"#),
-    ];
-    for (old, new) in edits {
+    for (old, new) in EDITS {
         let edited = HELD.replacen(old, new, 1);
         assert_ne!(edited, HELD, "{old} stands in the library");
         let found = compared(&edited, &terms.0).expect("both are read");
