@@ -302,8 +302,8 @@ static inline bool element_is_done(uint8_t outcome, const uint8_t *room)
  * given, with session, store and room as the call left them. Returns ELEMENT_NO_ERROR, and does nothing, if no refusal stands in the room.
  *
  * It carries the command out once more on a copy of the session with a last error of 0. No step that judges a command looks at the last error,
- * and the refusal changed nothing else: so the command is refused again with the same number (theorem refused-again), and that number is then
- * the last error of the copy (theorem its-number; both in crates/demands/proofs/Resent.antt). Session, store and room stay as they are.
+ * and the refusal changed nothing else: so the command is refused again with the same number (theorem refused_again), and that number is then
+ * the last error of the copy (theorem its_number; both in crates/demands/proofs/Resent.antt). Session, store and room stay as they are.
  */
 static inline uint8_t element_refusal_of(const uint8_t *command, size_t command_len, uint8_t *store, size_t store_len, const element_session *session, uint8_t *room, size_t room_len)
 {
