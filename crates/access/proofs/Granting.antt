@@ -8,17 +8,15 @@ use borrow.Author.Tests.{eq-eqb, ne_eqb}
 use lib.Dec.{eqb}
 use lib.ListN.{length, get_or, drop}
 use Rattle.rules.specs.declared.Session.{Session}
-use Rattle.rules.specs.declared.Found.{Found}
-use Rattle.rules.specs.declared.Found.TheVariants.{At, Nothing}
+use Rattle.rules.specs.Found.{Found}
+use Rattle.std.specs.Prelude.{Some, None, if◌then◌else◌}
 use Rattle.rules.specs.declared.Action.{Action}
 use Rattle.rules.specs.declared.Action.TheVariants.{Write, SetMetadata}
 use Rattle.rules.specs.declared.Kind.TheVariants.{Queue}
 use Rattle.rules.specs.declared.Slot.{Slot}
 use Rattle.rules.specs.declared.Slot.TheVariants.{Change}
-use Rattle.std.specs.Prelude.{if◌then◌else◌}
 use Rattle.rules.specs.Basic.{is_some}
-use Rattle.rules.specs.Expression.{Condition, Group, just, ◌and◌, Groups, only, ◌or◌, Expression, always, never, when, slot_size}
-use Rattle.rules.specs.Expression.{condition_bytes, group_bytes, groups_bytes, expression_bytes, read_expression, expression}
+use Rattle.rules.specs.Expression.{Condition, Group, just, ◌and◌, Groups, only, ◌or◌, Expression, always, never, when, slot_size, condition_bytes, group_bytes, groups_bytes, expression_bytes, read_expression, expression}
 use Rattle.rules.specs.Object.{expression_in, is, of_session}
 use Rattle.rules.specs.Access.{Seen, seen_in, condition_holds, group_holds, condition_counters, group_counters, Grant, grant_if, groups_grant, grant, asked, access}
 use Rattle.laws.proofs.Tests.{and_assoc}
@@ -169,14 +167,14 @@ module _ (w ns ms s : List ℕ) (i : ℕ) (inv : w ≡ ns ++ first_group (drop i
 -- `grant_of` -----------------------------------------------------------------------------------------------------------------
 
 module _ (r : Found) (s : List ℕ) (w : Grant) (d : Decides r s w) where
-  pub decides_at : (p : ℕ) → r ≡ At p → IsGroup p s
+  pub decides_at : (p : ℕ) → r ≡ Some p → IsGroup p s
   decides_at p e = (rw e at d).0
 
-  pub decided : (p : ℕ) (c : Counters) → r ≡ At p → listed c ≡ first_group (drop p s) → told (record { granted = true; counters = c }) ≡ w
+  pub decided : (p : ℕ) (c : Counters) → r ≡ Some p → listed c ≡ first_group (drop p s) → told (record { granted = true; counters = c }) ≡ w
   unfolding told
   decided p c e f = rw f (sym (rw e at d).1)
 
-  pub undecided : (g : Grant) → r ≡ Nothing → g ≡ grant_if false [] → g ≡ w
+  pub undecided : (g : Grant) → r ≡ None → g ≡ grant_if false [] → g ≡ w
   undecided g e f = f ∙ sym (rw e at d)
 
 -- `slot_grant`

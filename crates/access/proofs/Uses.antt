@@ -11,9 +11,8 @@ use lib.ListN.{get_or}
 use Rattle.rules.specs.declared.Session.{Session}
 use Rattle.rules.specs.declared.Kind.TheVariants.{Counter}
 use Rattle.rules.specs.declared.Direction.TheVariants.{Up}
-use Rattle.rules.specs.declared.Found.{Found}
-use Rattle.rules.specs.declared.Found.TheVariants.{At, Nothing}
-use Rattle.std.specs.Prelude.{if◌then◌else◌}
+use Rattle.rules.specs.Found.{Found}
+use Rattle.std.specs.Prelude.{Some, None, if◌then◌else◌}
 use Rattle.rules.specs.Basic.{is_some, or_else, big_endian_at}
 use Rattle.rules.specs.Expression.{names_counter, counter_number}
 use Rattle.rules.specs.Object.{is, is_counter, direction}
@@ -58,14 +57,14 @@ module _ (n : ℕ) (b : List ℕ) (sound : is_some (unpack b) ≡ true) (f : Fou
   in_all : f ≡ found n (or_else (unpack b) [])
   in_all = sound_find n b sound f e
 
-  pub not_usable : f ≡ Nothing → false ≡ usable (find n (or_else (unpack b) []))
+  pub not_usable : f ≡ None → false ≡ usable (find n (or_else (unpack b) []))
   unfolding usable
   not_usable h = rw (nowhere n (or_else (unpack b) []) (sym in_all ∙ h))
 
-  pub counter_stored : (p : ℕ) → f ≡ At p → Stored p b
+  pub counter_stored : (p : ℕ) → f ≡ Some p → Stored p b
   counter_stored p h = stored_there n p b (or_else (unpack b) []) (some_else (unpack b) [] sound) (sym in_all ∙ h)
 
-  pub usable_there : (p : ℕ) (z : Bool) → f ≡ At p → z ≡ usable (some (object_at p b)) → z ≡ usable (find n (or_else (unpack b) []))
+  pub usable_there : (p : ℕ) (z : Bool) → f ≡ Some p → z ≡ usable (some (object_at p b)) → z ≡ usable (find n (or_else (unpack b) []))
   usable_there p z h g = g ∙ ap usable (sym (finds_it n p b (or_else (unpack b) []) (some_else (unpack b) [] sound) (sym in_all ∙ h)))
 
 -- `condition_holds` and `with_condition`: the condition at i; n is the number in its last two bytes

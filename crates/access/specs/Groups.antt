@@ -1,7 +1,6 @@
 -- Groups in the bytes of an expression.
-use Rattle.std.specs.Prelude.{ℕ, ◌+◌, ◌-◌, ◌%◌, ◌≤◌, ◌≡◌, true, false, List, [], ◌∷◌, ◌++◌, eqb, length, drop, if◌then◌else◌}
-use Rattle.rules.specs.declared.Found.{Found}
-use Rattle.rules.specs.declared.Found.TheVariants.{At, Nothing}
+use Rattle.std.specs.Prelude.{ℕ, ◌+◌, ◌-◌, ◌%◌, ◌≤◌, ◌≡◌, true, false, List, [], ◌∷◌, ◌++◌, eqb, length, drop, if◌then◌else◌, Some, None}
+use Rattle.rules.specs.Found.{Found}
 use Rattle.rules.specs.Expression.{slot_size}
 use Rattle.rules.specs.Access.{condition_counters, Grant, grant_if}
 
@@ -21,5 +20,5 @@ IsGroup p b = (p + 3 ≤ length b) × ((length b + 1 - p) % 4 ≡ 0) × (length 
 
 -- the group at a place decides what is granted; none does
 abbrev pub Decides : Found → List ℕ → Grant → Type 0
-Decides (At p) b g = IsGroup p b × (g ≡ grant_if true (first_group (drop p b)))
-Decides Nothing b g = g ≡ grant_if false []
+Decides (Some p) b g = IsGroup p b × (g ≡ grant_if true (first_group (drop p b)))
+Decides None b g = g ≡ grant_if false []

@@ -6,8 +6,8 @@ use native.Mathlib.Omega.{arith}
 use borrow.Author.Tests.{le-leb, lt-leb}
 use lib.Dec.{leb, ltb}
 use Rattle.rules.specs.declared.Refusal.TheVariants.{BoundaryExceeded}
-use Rattle.rules.specs.declared.Verdict.{Verdict}
-use Rattle.rules.specs.declared.Verdict.TheVariants.{Refused}
+use Rattle.rules.specs.Verdict.{Verdict}
+use Rattle.std.specs.Prelude.{Err}
 use Rattle.rules.specs.Chain.{◌refused◌or◌}
 use Rattle.rules.specs.Refusals.{fitting}
 use Rattle.laws.proofs.Calls.{leb_alike}
@@ -20,7 +20,7 @@ after_header n room h = leb_alike (suc (room - 4)) n (suc room) (4 + n) (omega a
 
 -- a read from past what is in use, and from within it
 module _ (k used : ℕ) where
-  pub read_past : (later : Verdict) → used < k → Refused BoundaryExceeded ≡ (not (leb k used) refused BoundaryExceeded or later)
+  pub read_past : (later : Verdict) → used < k → Err BoundaryExceeded ≡ (not (leb k used) refused BoundaryExceeded or later)
   unfolding ◌refused◌or◌
   read_past later h = rw (lt-leb k used h)
 

@@ -10,7 +10,7 @@ use lib.ListN.{length}
 use Rattle.rules.specs.declared.Action.{Action}
 use Rattle.rules.specs.declared.Row.TheVariants.{OnObject}
 use Rattle.rules.specs.declared.Session.{Session}
-use Rattle.rules.specs.declared.Verdict.TheVariants.{Accepted}
+use Rattle.rules.specs.Verdict.{accepted}
 use Rattle.rules.specs.declared.Sizes.{Sizes}
 use Rattle.rules.specs.Command.{row, in_length}
 use Rattle.rules.specs.Expression.{is_state}
@@ -23,7 +23,7 @@ use Rattle.command.specs.InForm.{InForm}
 use Rattle.command.proofs.Table.{sizes_alike}
 
 module _ (sound : Bool) (c : List ℕ) (s : Session) where
-  pub in_form : early sound c s ≡ Accepted → InForm sound c s
+  pub in_form : early sound c s ≡ accepted → InForm sound c s
   unfolding unsound ill_sized unknown_param
   in_form h =
       let p = early_passed sound c s h in
@@ -34,19 +34,19 @@ module _ (sound : Bool) (c : List ℕ) (s : Session) where
       let told : in_length c ≡ length c - 4 = omega (arith, sized c p.step_3) in
       search (not-false, ltb-false)
 
-  pub row_long : early sound c s ≡ Accepted → 2 ≤ length c
+  pub row_long : early sound c s ≡ accepted → 2 ≤ length c
   row_long h = let f = in_form h in omega arith
 
   -- a command has the bytes that its action asks at least
-  pub action_in_full : (a : Action) → early sound c s ≡ Accepted → row c ≡ OnObject a → InFull a c
+  pub action_in_full : (a : Action) → early sound c s ≡ accepted → row c ≡ OnObject a → InFull a c
   action_in_full a h e = omega (arith, in_full sound c s h, ap (λ (z : Sizes). z.least) (rw e at (sizes_alike c)))
 
   -- and of an append, a body that is allowed
-  pub action_body : (a : Action) → early sound c s ≡ Accepted → row c ≡ OnObject a → BodySent a c
+  pub action_body : (a : Action) → early sound c s ≡ accepted → row c ≡ OnObject a → BodySent a c
   action_body a h e p = body_sent sound c s h (e ∙ ap OnObject p)
 
   -- the object's number is there
-  pub object_long : (a : Action) → early sound c s ≡ Accepted → row c ≡ OnObject a → 6 ≤ length c
+  pub object_long : (a : Action) → early sound c s ≡ accepted → row c ≡ OnObject a → 6 ≤ length c
   object_long a h e = omega (arith, in_full sound c s h, (on_object c a e).takes_object)
 
 -- the bounds that the parts of a command ask for

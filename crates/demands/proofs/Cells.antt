@@ -11,8 +11,8 @@ use lib.ListN.{length}
 use Rattle.mixing.specs.Cells.{Ruling, Machine}
 use Rattle.mixing.proofs.Frame.{Lawful}
 use Rattle.rules.specs.declared.Session.{Session}
-use Rattle.rules.specs.declared.Verdict.{Verdict}
-use Rattle.rules.specs.declared.Verdict.TheVariants.{Refused, Accepted}
+use Rattle.rules.specs.Verdict.{Verdict, accepted}
+use Rattle.std.specs.Prelude.{Ok, Err}
 use Rattle.rules.specs.Basic.{among}
 use Rattle.rules.specs.Command.{row, object_number, object_of}
 use Rattle.rules.specs.Response.{code, done_response, refused_response, put_in_front}
@@ -42,8 +42,8 @@ object_after r o = used_up r.counters (own_change r.does.stores o)
 
 -- what comes of a verdict; n: the object named. Under its number and those of the counters used up, what f finds there is put back changed
 unfoldable pub ruled : Verdict → Turn → ℕ → refusals.Ruling → (ℕ → Option Object) → Ruling ℕ Object Reply
-ruled (Refused x) t n r f = record { told = response refused_response t; code = code x; stores = [] }
-ruled Accepted t n r f =
+ruled (Err x) t n r f = record { told = response refused_response t; code = code x; stores = [] }
+ruled (Ok _) t n r f =
     record { told = response (done_response r.does.answer) t; code = 0; stores = changes (object_after r) (n ∷ r.counters) f }
 
 abbrev pub view : Session → (ℕ → Option Object) → Seen

@@ -15,7 +15,7 @@ use Rattle.rules.specs.declared.Direction.TheVariants.{Up}
 use Rattle.rules.specs.declared.Action.{Action}
 use Rattle.rules.specs.declared.Action.TheVariants.{GetData, GetMetadata, Write, EraseAndWrite, SetMetadata, Count, Append, Acknowledge}
 use Rattle.rules.specs.declared.Row.TheVariants.{OnObject}
-use Rattle.rules.specs.declared.Verdict.TheVariants.{Accepted}
+use Rattle.rules.specs.Verdict.{accepted}
 use Rattle.rules.specs.Basic.{among, or_else}
 use Rattle.rules.specs.Command.{row, object_number}
 use Rattle.rules.specs.Object.{Object, is, of_session, with_content}
@@ -69,7 +69,7 @@ module _ (t : Turn) (plain : Plain t) (no_metadata : sets_metadata (row t.comman
   room = length t.room
 
   -- an object after the command has the conditions that it had
-  object_keeps : (os : List Object) (x : Session) → objects_allowed os ≡ true → verdict true c room (seen os x) ≡ Accepted →
+  object_keeps : (os : List Object) (x : Session) → objects_allowed os ≡ true → verdict true c room (seen os x) ≡ accepted →
       (k : ℕ) (o : Object) → find k os ≡ some o → object_counters (object_after (ruling (row c) c (seen os x)) o) ≡ object_counters o
   unfolding object_after own_change in_place_of ruling_on seen
   object_keeps os x ok v k o found =
@@ -96,7 +96,7 @@ module _ (t : Turn) (plain : Plain t) (no_metadata : sets_metadata (row t.comman
     abbrev Before : Type 0
     Before = ConditionOn xs k.store m
 
-    accepted_keeps : (os : List Object) (x : Session) → unpack k.store ≡ some os → verdict true c room (seen os x) ≡ Accepted →
+    accepted_keeps : (os : List Object) (x : Session) → unpack k.store ≡ some os → verdict true c room (seen os x) ≡ accepted →
         ConditionOn xs (pack (objects_after (ruling (row c) c (seen os x)) os)) m → Before
     accepted_keeps os x u v on =
         let r = ruling (row c) c (seen os x) in
@@ -122,7 +122,7 @@ module _ (t : Turn) (plain : Plain t) (no_metadata : sets_metadata (row t.comman
     condition_before =
         step_by (λ a. ConditionOn xs a.store m → Before) c t.room k.store k.session (λ l on. on) (λ l r e on. on)
         (λ l e.
-        elim (unpack k.store) as (λ objects. unpack k.store ≡ objects → judgment c t.room objects (flushed c k.session) ≡ Accepted →
+        elim (unpack k.store) as (λ objects. unpack k.store ≡ objects → judgment c t.room objects (flushed c k.session) ≡ accepted →
         ConditionOn xs (performed (ruled c objects (flushed c k.session)) t.room (or_else objects [])).store m → Before) [
           | none ↦ λ u v. absurd (malformed_refused c room _ v)
           | some os ↦ λ u v. accepted_keeps os (flushed c k.session) u v

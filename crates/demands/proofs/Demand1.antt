@@ -8,9 +8,8 @@ use borrow.Author.Tests.{lt-ltb, le-ltb}
 use lib.ListN.{length}
 use Rattle.rules.specs.declared.Session.{Session}
 use Rattle.rules.specs.declared.Refusal.{Refusal}
-use Rattle.rules.specs.declared.Refusal.TheVariants.{InvalidObject, InvalidParam, InvalidLength, InvalidData, InternalError}
-use Rattle.rules.specs.declared.Refusal.TheVariants.{AccessDenied, BoundaryExceeded, InvalidCommand, NotAvailable, InsufficientBuffer}
-use Rattle.rules.specs.declared.Verdict.TheVariants.{Accepted}
+use Rattle.rules.specs.declared.Refusal.TheVariants.{InvalidObject, InvalidParam, InvalidLength, InvalidData, InternalError, AccessDenied, BoundaryExceeded, InvalidCommand, NotAvailable, InsufficientBuffer}
+use Rattle.rules.specs.Verdict.{accepted}
 use Rattle.rules.specs.Basic.{among}
 use Rattle.rules.specs.Response.{code, done_response, refused_response, put_in_front}
 use Rattle.rules.specs.Layout.{unpack}
@@ -55,10 +54,10 @@ no_room_changes_nothing c room store s h = rw (lt-ltb (length room) 4 h)
 
 -- what is done had room for a status and was accepted
 pub done_judged : (c room store : List ℕ) (s : Session) → is_done (step c room store s) ≡ true →
-    (4 ≤ length room) × (judgment c room (unpack store) (flushed c s) ≡ Accepted)
+    (4 ≤ length room) × (judgment c room (unpack store) (flushed c s) ≡ accepted)
 unfolding unanswered declined is_done put_in_front refused_response
 done_judged c room store s =
-    step_by (λ a. is_done a ≡ true → (4 ≤ length room) × (judgment c room (unpack store) (flushed c s) ≡ Accepted)) c room store s
+    step_by (λ a. is_done a ≡ true → (4 ≤ length room) × (judgment c room (unpack store) (flushed c s) ≡ accepted)) c room store s
     (λ l h. absurd (false≢true h)) (λ l r e h. absurd (false≢true h)) (λ l e h. (l, e))
 
 -- what is not done stores nothing

@@ -19,8 +19,7 @@ use Rattle.rules.specs.declared.Direction.TheVariants.{Up}
 use Rattle.rules.specs.declared.Action.{Action}
 use Rattle.rules.specs.declared.Action.TheVariants.{GetData, GetMetadata, Write, EraseAndWrite, SetMetadata, Count, Append, Acknowledge}
 use Rattle.rules.specs.declared.Row.TheVariants.{OnObject}
-use Rattle.rules.specs.declared.Verdict.{Verdict}
-use Rattle.rules.specs.declared.Verdict.TheVariants.{Accepted}
+use Rattle.rules.specs.Verdict.{Verdict, accepted}
 use Rattle.std.specs.Prelude.{if◌then◌else◌}
 use Rattle.rules.specs.Basic.{among}
 use Rattle.rules.specs.Command.{row, object_number, offset, sent_data, sent_body, sent_number}
@@ -36,8 +35,7 @@ use Rattle.rules.specs.Access.{Seen, seen, named, Grant, grant, holds, all_used_
 use Rattle.rules.specs.Operation.{shown, value_allowed, operation}
 use Rattle.rules.specs.Refusals.{unsound, unusable, ruling_on, ruling, verdict}
 use Rattle.rules.specs.Step.{After, replacing, objects_after, performed, answered, judged, flushed, step}
-use Rattle.demands.specs.Demand.{is_done, Ready, well_formed, writes, content_allowed, changed, excepted, uses, UsedUp, MayWrite, after_write, WritesExactly}
-use Rattle.demands.specs.Demand.{MayRead, Shows, bytes_shown, after_read, ReadsExactly}
+use Rattle.demands.specs.Demand.{is_done, Ready, well_formed, writes, content_allowed, changed, excepted, uses, UsedUp, MayWrite, after_write, WritesExactly, MayRead, Shows, bytes_shown, after_read, ReadsExactly}
 use Rattle.laws.proofs.Tests.{and_left, and_right, or_parts, by_test}
 use Rattle.laws.proofs.Inverse.{unpack_pack, pack_unpack}
 use Rattle.laws.proofs.Verdicts.{passed, EarlyPassed, early_passed, early_accepts, LatePassed, late_passed, late_accepts, NinePassed, nine_passed, verdict_passed, verdict_accepts}
@@ -58,14 +56,14 @@ record Writing (a : Action) (c : List ℕ) (o : Object) (see : Seen) : Type 0 wh
   refusal : Refusal
   asks : excepted a o ≡ false → access a o see ≡ grant see o.lcso o.change
   refuses_excepted : granted a o see ≡ true → excepted a o ≡ false
-  judges : (operation a c o see).verdict ≡ (not (content_allowed a c o) refused refusal or Accepted)
+  judges : (operation a c o see).verdict ≡ (not (content_allowed a c o) refused refusal or accepted)
   silent : (operation a c o see).answer ≡ []
   puts : (operation a c o see).stores ≡ some (changed a c o)
 
 -- the refusals of a count in one: 03 where the object is no counter, else 08
 count_refusals : (counter front at_end : Bool) →
-    (not counter refused InvalidParam or not front refused BoundaryExceeded or at_end refused BoundaryExceeded or Accepted) ≡
-    (not (counter && front && not at_end) refused (if counter then BoundaryExceeded else InvalidParam) or Accepted)
+    (not counter refused InvalidParam or not front refused BoundaryExceeded or at_end refused BoundaryExceeded or accepted) ≡
+    (not (counter && front && not at_end) refused (if counter then BoundaryExceeded else InvalidParam) or accepted)
 unfolding ◌refused◌or◌
 count_refusals true true true = refl
 count_refusals true true false = refl
@@ -78,15 +76,15 @@ above m n = by_test (leb n m) (λ t. rw (t, le-ltb m n (leb-true n m t))) (λ t.
 
 -- those of an append: 03 where the object is no queue, else 08 where the fare does not fit, else 0D
 append_refusals : (queue last : Bool) (most needs : ℕ) →
-    (not queue refused InvalidParam or ltb most needs refused BoundaryExceeded or last refused InsufficientBuffer or Accepted) ≡
+    (not queue refused InvalidParam or ltb most needs refused BoundaryExceeded or last refused InsufficientBuffer or accepted) ≡
     (not (queue && leb needs most && not last) refused (if queue then if leb needs most then InsufficientBuffer else BoundaryExceeded else InvalidParam)
-    or Accepted)
+    or accepted)
 unfolding ◌refused◌or◌
 append_refusals queue last most needs = rw (above most needs) (by queue (leb needs most) last)
   where
     by : (queue fits last : Bool) →
-        (not queue refused InvalidParam or not fits refused BoundaryExceeded or last refused InsufficientBuffer or Accepted) ≡
-        (not (queue && fits && not last) refused (if queue then if fits then InsufficientBuffer else BoundaryExceeded else InvalidParam) or Accepted)
+        (not queue refused InvalidParam or not fits refused BoundaryExceeded or last refused InsufficientBuffer or accepted) ≡
+        (not (queue && fits && not last) refused (if queue then if fits then InsufficientBuffer else BoundaryExceeded else InvalidParam) or accepted)
     by true true true = refl
     by true true false = refl
     by true false last = refl
@@ -94,8 +92,8 @@ append_refusals queue last most needs = rw (above most needs) (by queue (leb nee
 
 -- those of an acknowledgement: 03 where the object is no queue, else 05
 acknowledge_refusals : (queue present : Bool) →
-    (not queue refused InvalidParam or not present refused InvalidData or Accepted) ≡
-    (not (queue && present) refused (if queue then InvalidData else InvalidParam) or Accepted)
+    (not queue refused InvalidParam or not present refused InvalidData or accepted) ≡
+    (not (queue && present) refused (if queue then InvalidData else InvalidParam) or accepted)
 unfolding ◌refused◌or◌
 acknowledge_refusals true true = refl
 acknowledge_refusals true false = refl
@@ -212,14 +210,14 @@ module _ (c room store : List ℕ) (s : Session) (os : List Object) where
   abbrev verdict_now : Verdict
   verdict_now = verdict true c (length room) (seen os (flushed c s))
 
-  pub done_accepted : Ready room store s os → is_done (step c room store s) ≡ true → verdict_now ≡ Accepted
+  pub done_accepted : Ready room store s os → is_done (step c room store s) ≡ true → verdict_now ≡ accepted
   done_accepted ready h = rw ready.store_sound at (done_judged c room store s h).1
 
   allowed_objects : Ready room store s os → objects_allowed os ≡ true
   allowed_objects ready = (pack_unpack store os ready.store_sound).1
 
   -- an accepted action has its object
-  pub object_named : (a : Action) → row c ≡ OnObject a → verdict_now ≡ Accepted → NinePassed a c (named (object_number c) see) see (length room)
+  pub object_named : (a : Action) → row c ≡ OnObject a → verdict_now ≡ accepted → NinePassed a c (named (object_number c) see) see (length room)
   unfolding ruling
   object_named a acts e = nine_passed a c (named (object_number c) see) see (length room) (rw acts at (verdict_passed true c (length room) see e).1)
 
@@ -230,7 +228,7 @@ module _ (c room store : List ℕ) (s : Session) (os : List Object) where
     ruling_is = rw (acts, names_it)
 
     -- the steps 2 to 9 refuse it only where it is not well formed
-    accepted_by : well_formed c ≡ true → LatePassed a c o see (length room) → verdict_now ≡ Accepted
+    accepted_by : well_formed c ≡ true → LatePassed a c o see (length room) → verdict_now ≡ accepted
     unfolding unsound unusable well_formed seen
     accepted_by w l =
         let passed : EarlyPassed true c s =
@@ -238,19 +236,19 @@ module _ (c room store : List ℕ) (s : Session) (os : List Object) where
         let early = early_alike true c now s (flush_keeps c s) ∙ early_accepts true c s passed in
         verdict_accepts true c (length room) see early (rw ruling_is (late_accepts a c o see (length room) l))
 
-    accepted_passed : verdict_now ≡ Accepted → (well_formed c ≡ true) × LatePassed a c o see (length room)
+    accepted_passed : verdict_now ≡ accepted → (well_formed c ≡ true) × LatePassed a c o see (length room)
     unfolding well_formed seen
     accepted_passed e =
         let (early, late) = verdict_passed true c (length room) see e in
         let p = early_passed true c now early in
         (rw (p.step_3, p.step_7), late_passed a c o see (length room) (rw ruling_is at late))
 
-    performed_by : verdict_now ≡ Accepted → step c room store s ≡ performed (ruling_on a c (some o) see) room os
+    performed_by : verdict_now ≡ accepted → step c room store s ≡ performed (ruling_on a c (some o) see) room os
     unfolding judged answered
     performed_by e = step_judged c room store s ready.room_to_answer ∙ rw (ready.store_sound, e, ruling_is)
 
     -- the store that it leaves is sound
-    objects_left : verdict_now ≡ Accepted → unpack (step c room store s).store ≡ some (objects_after (ruling_on a c (some o) see) os)
+    objects_left : verdict_now ≡ accepted → unpack (step c room store s).store ≡ some (objects_after (ruling_on a c (some o) see) os)
     unfolding performed
     objects_left e =
         let k = rw ruling_is at (ruling_kept c os now (length room) (allowed_objects ready) e) in
@@ -275,7 +273,7 @@ module _ (c room store : List ℕ) (s : Session) (os : List Object) where
     grant_is : excepted a o ≡ false → access a o see ≡ grant (seen os s) o.lcso o.change
     grant_is x = asks.asks x ∙ flush_grant c s os o.lcso o.change
 
-    may_accepted : MayWrite a c (seen os s) o → verdict_now ≡ Accepted
+    may_accepted : MayWrite a c (seen os s) o → verdict_now ≡ accepted
     unfolding ◌refused◌or◌
     may_accepted m =
         let granted = ap (λ (g : Grant). g.granted) (grant_is m.not_excepted) ∙ m.change_condition_holds in
@@ -286,7 +284,7 @@ module _ (c room store : List ℕ) (s : Session) (os : List Object) where
     unfolding objects_after ruling_on replacing
     objects_written x = λ i. all_used_up (grant_is x i).counters (replacing (asks.puts i) os)
 
-    written : excepted a o ≡ false → verdict_now ≡ Accepted →
+    written : excepted a o ≡ false → verdict_now ≡ accepted →
         step c room store s ≡
         record { outcome = 0; room = put_in_front (done_response []) room; store = pack (after_write a c (seen os s) o os); session = now }
     unfolding performed ruling_on seen
@@ -316,20 +314,20 @@ module _ (c room store : List ℕ) (s : Session) (os : List Object) where
 
   -- of the object that is named, of the session or of the store
   module _ (o : Object) (ready : Ready room store s os) (acts : row c ≡ OnObject GetData) (names_it : named (object_number c) see ≡ some o) where
-    pub read_accepted : MayRead c (length room) see o → verdict_now ≡ Accepted
+    pub read_accepted : MayRead c (length room) see o → verdict_now ≡ accepted
     unfolding access asked operation ◌refused◌or◌
     read_accepted m =
         let within = le-leb (offset c) (used o) m.within_used in
         accepted_by o ready GetData acts names_it m.command_well_formed (search (m, within))
 
-    pub accepted_read : verdict_now ≡ Accepted → MayRead c (length room) see o
+    pub accepted_read : verdict_now ≡ accepted → MayRead c (length room) see o
     unfolding access asked operation
     accepted_read e =
         let (formed, l) = accepted_passed o ready GetData acts names_it e in
         let within = leb-true (offset c) (used o) (not-false _ (passed _ _ _ l.own).0) in
         record { command_well_formed = formed; read_condition_holds = l.granted; within_used = within; answer_fits = l.fits }
 
-    pub read_step : verdict_now ≡ Accepted →
+    pub read_step : verdict_now ≡ accepted →
         step c room store s ≡ bytes_shown (shown c o.content) room (pack (after_read see o os)) (operation GetData c o see).session
     unfolding performed ruling_on operation
     read_step e = performed_by o ready GetData acts names_it e ∙ rw (objects_read c o see os)
@@ -340,7 +338,7 @@ module _ (c room store : List ℕ) (s : Session) (os : List Object) where
     read_grant : grant see o.lcso o.read ≡ grant (seen os s) o.lcso o.read
     read_grant = flush_grant c s os o.lcso o.read
 
-    may_read : MayRead c (length room) (seen os s) o → verdict_now ≡ Accepted
+    may_read : MayRead c (length room) (seen os s) o → verdict_now ≡ accepted
     may_read m =
         let holding = ap (λ (g : Grant). g.granted) read_grant ∙ m.read_condition_holds in
         read_accepted o ready acts (stored_named o ready finds) (search (m, holding))
@@ -348,14 +346,14 @@ module _ (c room store : List ℕ) (s : Session) (os : List Object) where
     left : after_read see o os ≡ after_read (seen os s) o os
     left = ap (λ (g : Grant). all_used_up g.counters os) read_grant
 
-    shown_step : verdict_now ≡ Accepted → step c room store s ≡ bytes_shown (shown c o.content) room (pack (after_read (seen os s) o os)) now
+    shown_step : verdict_now ≡ accepted → step c room store s ≡ bytes_shown (shown c o.content) room (pack (after_read (seen os s) o os)) now
     unfolding seen
     shown_step e =
         read_step o ready acts (stored_named o ready finds) e ∙
         (λ i. bytes_shown (shown c o.content) room (pack (left i)) (session_left GetData c o see (there o ready finds).facts.outside_session i))
 
     -- where none is used up, the packing is the store
-    kept : uses (seen os s) o.lcso o.read ≡ [] → verdict_now ≡ Accepted → step c room store s ≡ bytes_shown (shown c o.content) room store now
+    kept : uses (seen os s) o.lcso o.read ≡ [] → verdict_now ≡ accepted → step c room store s ≡ bytes_shown (shown c o.content) room store now
     kept unused e =
         let same = ap (λ ns. pack (all_used_up ns os)) unused ∙ ap pack (none_used_up os) ∙ (pack_unpack store os ready.store_sound).0 in
         shown_step e ∙ ap (λ b. bytes_shown (shown c o.content) room b now) same

@@ -11,7 +11,7 @@ use Rattle.mixing.specs.Cells.{Ruling, repacked, ruling, store_after, answer, af
 use Rattle.mixing.proofs.Commute.{Agree}
 use Rattle.mixing.proofs.Frame.{repacked_pack}
 use Rattle.rules.specs.declared.Session.{Session}
-use Rattle.rules.specs.declared.Verdict.TheVariants.{Accepted}
+use Rattle.rules.specs.Verdict.{accepted}
 use Rattle.rules.specs.Basic.{is_some, or_else}
 use Rattle.rules.specs.Command.{row, object_number}
 use Rattle.rules.specs.Object.{Object, in_session}
@@ -59,14 +59,14 @@ module _ (t : Turn) (plain : Plain t) (b : List ℕ) (s : Session) where
       record { outcome = r.told.outcome; room = r.told.room; store = repacked put pack b (or_else m []) r.stores; session = raised r.code s }
 
   -- an accepted command stores what the machine stores, and leaves the session
-  accepted_follows : (m : Option (List Object)) → unpack b ≡ m → refusals.verdict (is_some m) c (length t.room) (see m) ≡ Accepted →
+  accepted_follows : (m : Option (List Object)) → unpack b ≡ m → refusals.verdict (is_some m) c (length t.room) (see m) ≡ accepted →
       let r = refusals.ruling (row c) c (see m) in
       let stores = changes (object_after r) (object_number c ∷ r.counters) (see m).stored in
       (pack (objects_after r (or_else m [])) ≡ repacked put pack b (or_else m []) stores) × (r.does.session ≡ s)
   unfolding seen rules_machine
   accepted_follows none u v = absurd (malformed_refused c (length t.room) (see none) v)
   accepted_follows (some os) u v =
-      let early : refusals.early true c s ≡ Accepted = (verdict_passed true c (length t.room) (seen os s) v).0 in
+      let early : refusals.early true c s ≡ accepted = (verdict_passed true c (length t.room) (seen os s) v).0 in
       let outside = (aimed t plain true s early).outside_session in
       let n = object_number c in (
         ap pack (sym (stored_is t plain os s (pack_unpack b os u).1 v)) ∙ sym (repacked_pack rules_machine lawful b os _ u),

@@ -16,9 +16,8 @@ use Rattle.rules.specs.declared.Session.{Session}
 use Rattle.rules.specs.declared.Kind.TheVariants.{Queue}
 use Rattle.rules.specs.declared.Action.{Action}
 use Rattle.rules.specs.declared.Action.TheVariants.{GetData, GetMetadata, Write, EraseAndWrite, SetMetadata, Count, Append, Acknowledge}
-use Rattle.rules.specs.declared.Verdict.{Verdict}
-use Rattle.rules.specs.declared.Verdict.TheVariants.{Refused, Accepted}
-use Rattle.std.specs.Prelude.{if◌then◌else◌}
+use Rattle.rules.specs.Verdict.{Verdict, accepted}
+use Rattle.std.specs.Prelude.{Ok, Err, if◌then◌else◌}
 use Rattle.rules.specs.Basic.{among}
 use Rattle.rules.specs.Command.{row, object_number, object_of}
 use Rattle.rules.specs.Expression.{Expression, always, never}
@@ -90,7 +89,7 @@ unfolding ruled object_after
 ruled_alike t n room r q f g a same =
     rw (late_alike r q room a)
     (elim (late q room) as (λ v. ruled v t n r f ≡ ruled v t n q g)
-    [ Refused x ↦ refl | Accepted ↦ rw (changes_alike (object_after r) (n ∷ r.counters) f g same, a.does.answer, a.does.stores, a.counters) ])
+    [ Err x ↦ refl | Ok _ ↦ rw (changes_alike (object_after r) (n ∷ r.counters) f g same, a.does.answer, a.does.stores, a.counters) ])
 
 module _ (t : Turn) (plain : Plain t) where
   abbrev c : List ℕ
@@ -110,7 +109,7 @@ module _ (t : Turn) (plain : Plain t) where
     pub names : object_of c ≡ some n
     pub outside_session : in_session n ≡ false
 
-  pub aimed : (sound : Bool) (s : Session) → early sound c s ≡ Accepted → Aimed
+  pub aimed : (sound : Bool) (s : Session) → early sound c s ≡ accepted → Aimed
   unfolding reads_or_writes unknown_param object_of
   aimed sound s h =
       let a = acts c plain.is_read_or_write (early_passed sound c s h).step_6 in
@@ -119,13 +118,13 @@ module _ (t : Turn) (plain : Plain t) where
       record { gets_or_sets = a; names = names; outside_session = plain.outside_session n names }
 
   -- its ruling, by the object that it names
-  pub ruling_at : (sound : Bool) (s : Session) (e : early sound c s ≡ Accepted) (see : Seen) →
+  pub ruling_at : (sound : Bool) (s : Session) (e : early sound c s ≡ accepted) (see : Seen) →
       ruling (row c) c see ≡ ruling_on (aimed sound s e).gets_or_sets.action c (see.stored n) see
   unfolding ruling
   ruling_at sound s e see = let a = aimed sound s e in rw (a.gets_or_sets.is, named_in_store n see a.outside_session)
 
   -- the numbers that it stores are of its footprint
-  in_foot : (sound : Bool) (s : Session) (e : early sound c s ≡ Accepted) (see : Seen) (k : ℕ) →
+  in_foot : (sound : Bool) (s : Session) (e : early sound c s ≡ accepted) (see : Seen) (k : ℕ) →
       among (n ∷ (ruling_on (aimed sound s e).gets_or_sets.action c (see.stored n) see).counters) k ≡ true → Foot t see.stored k
   unfolding among
   in_foot sound s e see k h =
@@ -147,8 +146,8 @@ module _ (t : Turn) (plain : Plain t) where
       by : (w : Verdict) → early sound c other.session ≡ w →
           ruled (w and_then late (ruling (row c) c see) room) t n (ruling (row c) c see) see.stored ≡
           ruled (w and_then late (ruling (row c) c other) room) t n (ruling (row c) c other) other.stored
-      by (Refused r) e = unfold ruled in refl
-      by Accepted e =
+      by (Err r) e = unfold ruled in refl
+      by (Ok _) e =
           let at = ruling_at sound other.session e in
           let a = aimed sound other.session e in
           let act = a.gets_or_sets.action in
@@ -163,7 +162,7 @@ module _ (t : Turn) (plain : Plain t) where
 
   -- what holds of no stores, and of those of an accepted command, holds of the stores
   stores_by : (P : List (Put ℕ Object) → Type 0) (see : Seen) → P [] →
-      (let r = ruling (row c) c see in verdict true c room see ≡ Accepted → P (changes (object_after r) (n ∷ r.counters) see.stored)) →
+      (let r = ruling (row c) c see in verdict true c room see ≡ accepted → P (changes (object_after r) (n ∷ r.counters) see.stored)) →
       P (ruled_at (small t) t true see).stores
   unfolding ruled_at ruled
   stores_by P see nothing Some_Stored =
@@ -171,11 +170,11 @@ module _ (t : Turn) (plain : Plain t) where
         | true ↦ nothing
         | false ↦
             elim (verdict true c room see) as (λ v. verdict true c room see ≡ v → P (ruled v t n (ruling (row c) c see) see.stored).stores)
-            [ Refused r ↦ λ e. nothing | Accepted ↦ Some_Stored ] refl
+            [ Err r ↦ λ e. nothing | Ok _ ↦ Some_Stored ] refl
       ]
 
   -- with what is stored, the objects are those after the command
-  pub stored_is : (os : List Object) (x : Session) → objects_allowed os ≡ true → verdict true c room (seen os x) ≡ Accepted →
+  pub stored_is : (os : List Object) (x : Session) → objects_allowed os ≡ true → verdict true c room (seen os x) ≡ accepted →
       let r = ruling (row c) c (seen os x) in
       puts put (changes (object_after r) (n ∷ r.counters) (λ k. find k os)) os ≡ objects_after r os
   stored_is os x ok v =

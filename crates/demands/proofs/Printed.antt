@@ -13,7 +13,7 @@ use Rattle.rules.specs.declared.Action.{Action}
 use Rattle.rules.specs.declared.Action.TheVariants.{GetData, GetMetadata, Write, EraseAndWrite, SetMetadata, Count, Append, Acknowledge}
 use Rattle.rules.specs.declared.Row.{Row}
 use Rattle.rules.specs.declared.Row.TheVariants.{OnObject, OpenApplication, CloseApplication, Unknown}
-use Rattle.rules.specs.declared.Verdict.TheVariants.{Accepted}
+use Rattle.rules.specs.Verdict.{accepted}
 use Rattle.rules.specs.Basic.{zeros, big_endian_at, is_some, or_else}
 use Rattle.rules.specs.Hex.{ascii}
 use Rattle.rules.specs.Command.{table_line, command_table, no_line, line_of, cmd, param, row, object_number}
@@ -84,7 +84,7 @@ operation_short Acknowledge c o see other g known = omega arith
 -- an accepted command of less than ten bytes is no get of data
 answer_short : (c store : List ℕ) (room : ℕ) (m : Option (List Object)) (s : Session) → length c < 10 → unpack store ≡ m →
     let see = seen (or_else m []) s in
-    verdict (is_some m) c room see ≡ Accepted → length (ruling (row c) c see).does.answer ≤ 100
+    verdict (is_some m) c room see ≡ accepted → length (ruling (row c) c see).does.answer ≤ 100
 unfolding seen ruling ruling_on ruling_of setting_session
 answer_short c store room none s l u v = absurd (malformed_refused c room (seen [] s) v)
 answer_short c store room (some os) s l u v = by (row c) refl

@@ -16,7 +16,7 @@ use Rattle.rules.specs.declared.Action.{Action}
 use Rattle.rules.specs.declared.Action.TheVariants.{GetData, GetMetadata, Write, EraseAndWrite, SetMetadata, Count, Append, Acknowledge}
 use Rattle.rules.specs.declared.Row.{Row}
 use Rattle.rules.specs.declared.Row.TheVariants.{OnObject, OpenApplication, CloseApplication, Unknown}
-use Rattle.rules.specs.declared.Verdict.TheVariants.{Accepted}
+use Rattle.rules.specs.Verdict.{accepted}
 use Rattle.std.specs.Prelude.{if◌then◌else◌}
 use Rattle.rules.specs.Basic.{all, or_else}
 use Rattle.rules.specs.Command.{Line, table_line, command_table, no_line, line_in, line_of, cmd, param, row, is_unknown, object_number, sent_body, sent_number}
@@ -133,7 +133,7 @@ not_used_up ns o h = rw (or_left (is (Counter Up) o.kind) _ (queue_not_counter o
 
 -- a command that the steps 2 to 13 accept ------------------------------------------------------------------------------------
 
-module _ (c : List ℕ) (os : List Object) (s : Session) (room : ℕ) (ok : objects_allowed os ≡ true) (v : verdict true c room (seen os s) ≡ Accepted)
+module _ (c : List ℕ) (os : List Object) (s : Session) (room : ℕ) (ok : objects_allowed os ≡ true) (v : verdict true c room (seen os s) ≡ accepted)
     (n : ℕ) (q : FareQueue) (h : QueueIn n os q) where
   abbrev see : Seen
   see = seen os s
@@ -275,7 +275,7 @@ not_done_after n c q store h =
 
 -- done
 accepted_after : (n : ℕ) (c : List ℕ) (os : List Object) (s : Session) (room : ℕ) (q : FareQueue) → objects_allowed os ≡ true →
-    verdict true c room (seen os s) ≡ Accepted → QueueIn n os q → QueueAfter n c true q (pack (objects_after (ruling (row c) c (seen os s)) os))
+    verdict true c room (seen os s) ≡ accepted → QueueIn n os q → QueueAfter n c true q (pack (objects_after (ruling (row c) c (seen os s)) os))
 unfolding stored_queue
 accepted_after n c os s room q ok v h =
     let r = ruling (row c) c (seen os s) in

@@ -14,9 +14,8 @@ use Rattle.rules.specs.declared.Action.{Action}
 use Rattle.rules.specs.declared.Action.TheVariants.{GetData, GetMetadata, Write, EraseAndWrite, SetMetadata, Count, Append, Acknowledge}
 use Rattle.rules.specs.declared.Row.{Row}
 use Rattle.rules.specs.declared.Row.TheVariants.{OnObject, OpenApplication, CloseApplication, Unknown}
-use Rattle.rules.specs.declared.Verdict.{Verdict}
-use Rattle.rules.specs.declared.Verdict.TheVariants.{Refused}
-use Rattle.std.specs.Prelude.{if◌then◌else◌}
+use Rattle.rules.specs.Verdict.{Verdict}
+use Rattle.std.specs.Prelude.{Err, if◌then◌else◌}
 use Rattle.rules.specs.Basic.{or_else, is_some, first_of}
 use Rattle.rules.specs.Command.{row, asks_flush, object_number}
 use Rattle.rules.specs.Response.{code}
@@ -88,7 +87,7 @@ module _ (c : List ℕ) (room : ℕ) (n : ℕ) (s : Session) (os : List Object) 
   verdict_alike sound = λ i. early_alike sound c (with_error n s) s (error_aside n s) i and_then row_same (row c) i
 
 -- a refused command, carried out again with a last error of 0, is refused again, with its number as the last error
-module _ (c room store : List ℕ) (s : Session) (r : Refusal) (fits : 4 ≤ length room) (no : judgment c room (unpack store) (flushed c s) ≡ Refused r) where
+module _ (c room store : List ℕ) (s : Session) (r : Refusal) (fits : 4 ≤ length room) (no : judgment c room (unpack store) (flushed c s) ≡ Err r) where
   flushed_same : flushed c (with_error 0 s) ≡ with_error 0 s
   unfolding flushed with_error
   flushed_same = if_by (λ x. x ≡ with_error 0 s) (asks_flush c) _ _ (λ t. refl) (λ t. refl)

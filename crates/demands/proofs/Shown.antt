@@ -15,7 +15,7 @@ use Rattle.rules.specs.declared.Kind.TheVariants.{LifeCycle, Status}
 use Rattle.rules.specs.declared.Action.{Action}
 use Rattle.rules.specs.declared.Action.TheVariants.{GetData}
 use Rattle.rules.specs.declared.Row.TheVariants.{OnObject}
-use Rattle.rules.specs.declared.Verdict.TheVariants.{Accepted}
+use Rattle.rules.specs.Verdict.{accepted}
 use Rattle.std.specs.Prelude.{if◌then◌else◌}
 use Rattle.rules.specs.Basic.{among, is_some, or_else}
 use Rattle.rules.specs.Command.{row, object_number}
@@ -97,7 +97,7 @@ module _ (c : List ℕ) (byte : ℕ) where
 -- it uses up no counter, so the packing is the store
 byte_step : (c room store : List ℕ) (s : Session) (os : List Object) (byte : ℕ) (k : Kind) → Ready room store s os → row c ≡ OnObject GetData →
     named (object_number c) (seen os (flushed c s)) ≡ some (session_object (object_number c) k byte) →
-    verdict true c (length room) (seen os (flushed c s)) ≡ Accepted → step c room store s ≡ bytes_shown (byte_shown c byte) room store (after_byte c (flushed c s))
+    verdict true c (length room) (seen os (flushed c s)) ≡ accepted → step c room store s ≡ bytes_shown (byte_shown c byte) room store (after_byte c (flushed c s))
 unfolding session_object seen grant
 byte_step c room store s os byte k ready acts n accepted =
     let see = seen os (flushed c s) in

@@ -12,8 +12,8 @@ use Rattle.rules.specs.declared.Kind.{Kind}
 use Rattle.rules.specs.declared.Session.{Session}
 use Rattle.rules.specs.declared.Found.TheVariants as found_at
 use Rattle.rules.specs.declared.Refusal.{Refusal}
-use Rattle.rules.specs.declared.Verdict.{Verdict}
-use Rattle.rules.specs.declared.Verdict.TheVariants.{Refused, Accepted}
+use Rattle.rules.specs.Verdict.{Verdict, accepted}
+use Rattle.std.specs.Prelude.{Err}
 use Rattle.rules.specs.declared.Action.{Action}
 use Rattle.rules.specs.declared.Action.TheVariants.{GetData, GetMetadata, Write, EraseAndWrite, SetMetadata, Count, Append, Acknowledge}
 use Rattle.rules.specs.declared.Row.{Row}
@@ -53,7 +53,7 @@ use Rattle.act.specs.Acting.{session_does, record_does, InSessionMay, OnRecordMa
 use Rattle.element.specs.declared.Answer.{Answer}
 use Rattle.element.specs.Executed.{executed, Executes}
 
-not_accepted : {r : Refusal} → Refused r ≡ Accepted → ⊥
+not_accepted : {r : Refusal} → Err r ≡ accepted → ⊥
 not_accepted h = let z : ◌≡◌ {A = ℕ} 0 1 = cc in omega arith
 
 -- what a value was told to be, of another that it is
@@ -67,7 +67,7 @@ refused_by k r s t e f = f ∙ ap (λ n. raised n s) e
 -- an accepted get or set ----------------------------------------------------------------------------------------------------------
 
 -- what the verdict at an object of the session has told
-session_told : (a : Action) (c : List ℕ) (k : Kind) (byte room : ℕ) → session_verdict a c k byte room ≡ Accepted → InSessionMay a c byte room
+session_told : (a : Action) (c : List ℕ) (k : Kind) (byte room : ℕ) → session_verdict a c k byte room ≡ accepted → InSessionMay a c byte room
 unfolding operation session_object
 session_told GetData c k byte room h = fitting_passed _ room (both_accepted _ _ h).1
 session_told GetMetadata c k byte room h = absurd (not_accepted h)
@@ -121,7 +121,7 @@ module _ (a : Action) (c b : List ℕ) (s : Session) (aim : Target) (t : Placed 
   see = seen_in b s
 
   -- the verdict was: accepted
-  module _ (room : ℕ) (h : late (ruling_on a c (target_object aim b) (seen_in b s)) room ≡ Accepted) where
+  module _ (room : ℕ) (h : late (ruling_on a c (target_object aim b) (seen_in b s)) room ≡ accepted) where
     pub session_may : (n : ObjectNumber) (k : Kind) (byte : ℕ) → aim ≡ InSession n k byte → InSessionMay a c byte room
     unfolding target_object
     session_may n k byte e =
@@ -134,10 +134,10 @@ module _ (a : Action) (c b : List ℕ) (s : Session) (aim : Target) (t : Placed 
 
     pub record_may : (p : ℕ) → BodySent a c → aim ≡ InStore p → OnRecordMay a c (object_at p b) room
     record_may p sent e =
-        let there : Stored p b × (found (object_number c) os ≡ found_at.At p) = rw e at t in
+        let there : Stored p b × (found (object_number c) os ≡ Some p) = rw e at t in
         record_told a c (object_at p b) see room (standing p b there.0.stands).allowed sent (record_late p e)
 
-    pub nothing_late : aim ≡ Nothing → ⊥
+    pub nothing_late : aim ≡ None → ⊥
     unfolding target_object late ruling_on ◌and_then◌
     nothing_late e = not_accepted (rw e at h)
 
@@ -150,7 +150,7 @@ module _ (a : Action) (c b : List ℕ) (s : Session) (aim : Target) (t : Placed 
     unfolding replacing
     packed = sym (pack_unpack b os unpacked).0
 
-    module _ (room xs : List ℕ) (h : late (ruling_on a c (target_object aim b) (seen_in b s)) (length room) ≡ Accepted) where
+    module _ (room xs : List ℕ) (h : late (ruling_on a c (target_object aim b) (seen_in b s)) (length room) ≡ accepted) where
       -- at an object of the session nothing is stored
       nothing_stored : (n : ObjectNumber) (k : Kind) (byte : ℕ) → aim ≡ InSession n k byte → (m : Option Object) →
           (operation a c (session_object n.0 k byte) see).stores ≡ m → m ≡ none
@@ -176,7 +176,7 @@ module _ (a : Action) (c b : List ℕ) (s : Session) (aim : Target) (t : Placed 
       unfolding stored_at replacing
       same_store p e none q = packed
       same_store p e (some new) q =
-          let there : Stored p b × (found (object_number c) os ≡ found_at.At p) = rw e at t in
+          let there : Stored p b × (found (object_number c) os ≡ Some p) = rw e at t in
           let ok = (standing p b there.0.stands).allowed in
           let l = record_late (length room) h p e in
           let f = operation_fitting a c (object_at p b) see new ok sent l.granted l.own q in
@@ -188,7 +188,7 @@ module _ (a : Action) (c b : List ℕ) (s : Session) (aim : Target) (t : Placed 
       unfolding replacing
       still_sound p e none q = rw (← packed) unpacked
       still_sound p e (some new) q =
-          let there : Stored p b × (found (object_number c) os ≡ found_at.At p) = rw e at t in
+          let there : Stored p b × (found (object_number c) os ≡ Some p) = rw e at t in
           let ok = (standing p b there.0.stands).allowed in
           let l = record_late (length room) h p e in
           let f = operation_fitting a c (object_at p b) see new ok sent l.granted l.own q in
@@ -215,13 +215,13 @@ module _ (a : Action) (c b : List ℕ) (s : Session) (aim : Target) (t : Placed 
             executed (record { outcome = 0; session = s }) xs b2 ≡ performed (ruling_on a c (target_object aim b) (seen_in b s)) room os
         unfolding performed objects_after target_object ruling_on seen
         record_done ns b2 en e2 ex =
-            let there : Stored p b × (found (object_number c) os ≡ found_at.At p) = rw e at t in
+            let there : Stored p b × (found (object_number c) os ≡ Some p) = rw e at t in
             let outside = (allowed (object_at p b) (standing p b there.0.stands).allowed).outside_session in
             rw (e2, en, ex, changed_sound, e, alike.answer, session_left a c (object_at p b) see outside)
 
 -- `on_object`: the verdict of the steps 9 to 13 decides -----------------------------------------------------------------------------
 
-module _ (c b room : List ℕ) (s : Session) (a : early (is_some (unpack b)) c s ≡ Accepted) where
+module _ (c b room : List ℕ) (s : Session) (a : early (is_some (unpack b)) c s ≡ accepted) where
   pub accepted_sound : is_some (unpack b) ≡ true
   accepted_sound = (in_form (is_some (unpack b)) c s a).well_formed
 
@@ -237,16 +237,16 @@ module _ (c b room : List ℕ) (s : Session) (a : early (is_some (unpack b)) c s
     ruling_is = rw (acts, ea)
 
     pub refused_late : (v : Verdict) (k : Refusal) (r : Answer) (xs : List ℕ) → v ≡ late (ruling_on w c (target_object aim b) (seen_in b s)) (length room) →
-        v ≡ Refused k → r.outcome ≡ 0 → r.session ≡ raised (code k) s → xs ≡ put_in_front refused_response room → executed r xs b ≡ judged c room b (unpack b) s
+        v ≡ Err k → r.outcome ≡ 0 → r.session ≡ raised (code k) s → xs ≡ put_in_front refused_response room → executed r xs b ≡ judged c room b (unpack b) s
     unfolding answered declined
-    refused_late v k r xs e q eo es ex = rw (eo, es, ex) (judged_by (Refused k) (told q (rw ruling_is at e)))
+    refused_late v k r xs e q eo es ex = rw (eo, es, ex) (judged_by (Err k) (told q (rw ruling_is at e)))
 
     pub accepted_late : (v : Verdict) (r : Session) (xs b' : List ℕ) → v ≡ late (ruling_on w c (target_object aim b) (seen_in b s)) (length room) →
-        v ≡ Accepted →
+        v ≡ accepted →
         executed (record { outcome = 0; session = r }) xs b' ≡ performed (ruling_on w c (target_object aim b) (seen_in b s)) room (or_else (unpack b) []) →
         executed (record { outcome = 0; session = r }) xs b' ≡ judged c room b (unpack b) s
     unfolding answered
-    accepted_late v r xs b' e q f = (rw ruling_is at f) ∙ judged_by Accepted (told q (rw ruling_is at e))
+    accepted_late v r xs b' e q f = (rw ruling_is at f) ∙ judged_by accepted (told q (rw ruling_is at e))
 
   -- `carry_out`: a row that names no object
   module _ (four : 4 ≤ length room) (w : Row) (ew : w ≡ row c) (r : Answer) (xs : List ℕ) (eo : r.outcome ≡ 0)
@@ -255,9 +255,9 @@ module _ (c b room : List ℕ) (s : Session) (a : early (is_some (unpack b)) c s
     unfolding answered performed objects_after late ruling_of setting_session replacing ◌and_then◌
     session_set s' e es =
         let packed = (pack_unpack b (or_else (unpack b) []) (some_else (unpack b) [] accepted_sound)).0 in
-        let stands : executed r xs b ≡ answered Accepted (ruling (row c) c (seen_in b s)) room b (or_else (unpack b) []) s =
+        let stands : executed r xs b ≡ answered accepted (ruling (row c) c (seen_in b s)) room b (or_else (unpack b) []) s =
         rw (e, none_used_up, packed, eo, ex, es) in
-        stands ∙ judged_by Accepted (rw e (sym (fitting_accepts 0 (length room) four)))
+        stands ∙ judged_by accepted (rw e (sym (fitting_accepts 0 (length room) four)))
 
     pub opened_set : (s' : Session) → w ≡ OpenApplication → s' ≡ with_opened true s → r.session ≡ s' → executed r xs b ≡ judged c room b (unpack b) s
     unfolding ruling seen
@@ -283,10 +283,10 @@ module _ (c room b : List ℕ) (s : Session) where
     unfolding step
     step_by r xs b' e = e ∙ ap (judged c room b (unpack b)) ef ∙ sym (rw (le-ltb (length room) 4 four))
 
-    pub early_refused : (t : Bool) (v : Verdict) (k : Refusal) (r : Answer) (xs : List ℕ) → t ≡ is_some (unpack b) → v ≡ early t c f → v ≡ Refused k →
+    pub early_refused : (t : Bool) (v : Verdict) (k : Refusal) (r : Answer) (xs : List ℕ) → t ≡ is_some (unpack b) → v ≡ early t c f → v ≡ Err k →
         r.outcome ≡ 0 → r.session ≡ raised (code k) f → xs ≡ put_in_front refused_response room → Executes c room b s r xs b
     unfolding declined judged verdict answered ◌and_then◌ seen
     early_refused t v k r xs et ev q eo es ex = step_by r xs b (rw (eo, es, ex, ← et, ← ev, q))
 
-  pub early_passes : (f : Session) (t : Bool) (v : Verdict) → t ≡ is_some (unpack b) → v ≡ early t c f → v ≡ Accepted → early (is_some (unpack b)) c f ≡ Accepted
+  pub early_passes : (f : Session) (t : Bool) (v : Verdict) → t ≡ is_some (unpack b) → v ≡ early t c f → v ≡ accepted → early (is_some (unpack b)) c f ≡ accepted
   early_passes f t v et ev q = ap (λ x. early x c f) (sym et) ∙ sym ev ∙ q

@@ -11,7 +11,8 @@ use lib.Seq.{take-length}
 use Rattle.rules.specs.declared.Kind.TheVariants.{Queue}
 use Rattle.rules.specs.declared.Action.TheVariants.{Append, Acknowledge}
 use Rattle.rules.specs.declared.Refusal.TheVariants.{InvalidParam, InvalidData, BoundaryExceeded, InsufficientBuffer}
-use Rattle.rules.specs.declared.Verdict.TheVariants.{Refused, Accepted}
+use Rattle.rules.specs.Verdict.{accepted}
+use Rattle.std.specs.Prelude.{Err}
 use Rattle.rules.specs.Basic.{is_some}
 use Rattle.rules.specs.Command.{sent_body, sent_number}
 use Rattle.rules.specs.Object.{Object, used, is}
@@ -36,7 +37,7 @@ content_sound p b s q eq h x ex = rw ex (queue_sound (object_at p b) (stands_all
 module _ (o : Object) (q : Bool) (eq : q ≡ is Queue o.kind) (c : List ℕ) (see : Seen) where
   -- of an append: f is whether the fare fits, n the next number
   module _ (body : List ℕ) (eb : sent_body c ≡ body) where
-    pub append_no_queue : not q ≡ true → Refused InvalidParam ≡ (operation Append c o see).verdict
+    pub append_no_queue : not q ≡ true → Err InvalidParam ≡ (operation Append c o see).verdict
     unfolding operation ◌refused◌or◌
     append_no_queue h = rw (← eq, h)
 
@@ -48,30 +49,30 @@ module _ (o : Object) (q : Bool) (eq : q ≡ is Queue o.kind) (c : List ℕ) (se
           by_test f (λ t. let l = leb-true (u + (fare_head + length body)) m (sym ef ∙ t) in rw t (le-ltb o.maximum whole (omega arith)))
           (λ t. let l = leb-false (u + (fare_head + length body)) m (sym ef ∙ t) in rw t (lt-ltb o.maximum whole (omega arith)))
 
-      pub append_no_room : not f ≡ true → Refused BoundaryExceeded ≡ (operation Append c o see).verdict
+      pub append_no_room : not f ≡ true → Err BoundaryExceeded ≡ (operation Append c o see).verdict
       unfolding operation ◌refused◌or◌
       append_no_room t = rw (← eq, h, room_told, t)
 
       module _ (t : not f ≡ false) (x : List ℕ) (ex : x ≡ o.content) (n : ℕ) (en : n ≡ (queue_in x).next) where
-        pub append_no_number : n ≡ 0xFFFFFFFF → Refused InsufficientBuffer ≡ (operation Append c o see).verdict
+        pub append_no_number : n ≡ 0xFFFFFFFF → Err InsufficientBuffer ≡ (operation Append c o see).verdict
         unfolding operation ◌refused◌or◌
         append_no_number e = rw (← eq, h, room_told, t, ← ex, ← en, e)
 
-        pub append_passes : (n ≡ 0xFFFFFFFF → ⊥) → Accepted ≡ (operation Append c o see).verdict
+        pub append_passes : (n ≡ 0xFFFFFFFF → ⊥) → accepted ≡ (operation Append c o see).verdict
         unfolding operation ◌refused◌or◌
         append_passes e = rw (← eq, h, room_told, t, ← ex, ← en, ne_eqb n 0xFFFFFFFF e)
 
   -- of an acknowledgement: f is whether the number is present
   module _ (number : ℕ) (en : sent_number c ≡ number) where
-    pub acknowledge_no_queue : not q ≡ true → Refused InvalidParam ≡ (operation Acknowledge c o see).verdict
+    pub acknowledge_no_queue : not q ≡ true → Err InvalidParam ≡ (operation Acknowledge c o see).verdict
     unfolding operation ◌refused◌or◌
     acknowledge_no_queue h = rw (← eq, h)
 
     module _ (h : not q ≡ false) (x : List ℕ) (ex : x ≡ o.content) (f : Bool) (ef : f ≡ present_in (queue_in x).fares number) where
-      pub acknowledge_absent : not f ≡ true → Refused InvalidData ≡ (operation Acknowledge c o see).verdict
+      pub acknowledge_absent : not f ≡ true → Err InvalidData ≡ (operation Acknowledge c o see).verdict
       unfolding operation ◌refused◌or◌
       acknowledge_absent t = rw (← eq, h, ← ex, en, ← ef, t)
 
-      pub acknowledge_passes : not f ≡ false → Accepted ≡ (operation Acknowledge c o see).verdict
+      pub acknowledge_passes : not f ≡ false → accepted ≡ (operation Acknowledge c o see).verdict
       unfolding operation ◌refused◌or◌
       acknowledge_passes t = rw (← eq, h, ← ex, en, ← ef, t)

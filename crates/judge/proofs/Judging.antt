@@ -14,14 +14,13 @@ use Rattle.rules.specs.declared.Kind.TheVariants.{Counter, Queue, LifeCycle}
 use Rattle.rules.specs.declared.Direction.{Direction}
 use Rattle.rules.specs.declared.Direction.TheVariants.{Up, Down}
 use Rattle.rules.specs.declared.ObjectNumber.{ObjectNumber}
-use Rattle.rules.specs.declared.Verdict.{Verdict}
-use Rattle.rules.specs.declared.Verdict.TheVariants.{Refused, Accepted}
+use Rattle.rules.specs.Verdict.{Verdict, accepted}
+use Rattle.std.specs.Prelude.{Err, if◌then◌else◌}
 use Rattle.rules.specs.declared.Refusal.{Refusal}
 use Rattle.rules.specs.declared.Refusal.TheVariants.{InvalidObject, InvalidParam, AccessDenied, BoundaryExceeded, InvalidData}
 use Rattle.rules.specs.declared.Action.{Action}
 use Rattle.rules.specs.declared.Action.TheVariants.{GetData, GetMetadata, Write, EraseAndWrite, SetMetadata, Count, Append, Acknowledge}
 use Rattle.rules.specs.Command.{offset, asked_length, sent_data, sent_metadata, sent_body, sent_number}
-use Rattle.std.specs.Prelude.{if◌then◌else◌}
 use Rattle.rules.specs.Expression.{may_become, always, never}
 use Rattle.rules.specs.Object.{Object, used, kind_number, is, of_session, is_counter, counter_size}
 use Rattle.rules.specs.Metadata.{metadata_allowed}
@@ -105,7 +104,7 @@ then_later true r v w = refl
 then_later false r v w = refl
 
 -- a step of an action's verdict whose test was called
-pub stop_own : {t q : Bool} (k : Refusal) (v w : Verdict) → q ≡ t → q ≡ true → Refused k ≡ ((t refused k or v) and_then w)
+pub stop_own : {t q : Bool} (k : Refusal) (v w : Verdict) → q ≡ t → q ≡ true → Err k ≡ ((t refused k or v) and_then w)
 unfolding ◌refused◌or◌ ◌and_then◌
 stop_own k v w e h = rw (← e, h)
 
@@ -171,7 +170,7 @@ state_judged c n byte k see room of = by (is LifeCycle k) refl
 
 -- a count, an append and an acknowledgement: 03 where change is always granted, 07 where it never is
 refused_judged : (a : Action) (c : List ℕ) (n byte : ℕ) (k : Kind) (see : Seen) (room : ℕ) → asked a (session_object n k byte) ≡ session_change k →
-    (is LifeCycle k ≡ true → (operation a c (session_object n k byte) see).verdict ≡ Refused InvalidParam) →
+    (is LifeCycle k ≡ true → (operation a c (session_object n k byte) see).verdict ≡ Err InvalidParam) →
     session_refused k ≡ late (ruling_on a c (some (session_object n k byte)) see) room
 unfolding late ruling_on access session_change grant ◌refused◌or◌ ◌and_then◌
 refused_judged a c n byte k see room q v = by (is LifeCycle k) refl
@@ -228,7 +227,7 @@ module _ (p : ℕ) (b c : List ℕ) (room : ℕ) (r : Verdict) where
   -- of either action that writes
   pub stored_write : Stored p b → r ≡ write_verdict c (object_at p b) room →
       r ≡ ((not (write_fits (object_at p b) (offset c) (length (sent_data c))) refused BoundaryExceeded or
-      not (value_allowed (object_at p b) (get_or (sent_data c) 0 0)) refused InvalidData or Accepted) and_then fitting 0 room)
+      not (value_allowed (object_at p b) (get_or (sent_data c) 0 0)) refused InvalidData or accepted) and_then fitting 0 room)
   unfolding ◌refused◌or◌ ◌and_then◌
   stored_write t f = rw (then_later, any_value) f
     where
@@ -266,7 +265,7 @@ module _ (a : Action) (c b : List ℕ) (see : Seen) (aim : Target) (n : ObjectNu
   unfolding ruling_on
   session_counters ns z = z ∙ sym (session_uses_none a n.0 byte k see (rw e at t))
 
-pub nothing_named : (a : Action) (c : List ℕ) (see : Seen) (room : ℕ) (r : Verdict) → r ≡ Refused InvalidObject → r ≡ late (ruling_on a c none see) room
+pub nothing_named : (a : Action) (c : List ℕ) (see : Seen) (room : ℕ) (r : Verdict) → r ≡ Err InvalidObject → r ≡ late (ruling_on a c none see) room
 unfolding late ruling_on ◌and_then◌
 nothing_named a c see room r e = e
 

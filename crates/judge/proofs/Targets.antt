@@ -8,7 +8,7 @@ use borrow.Author.Tests.{ne_eqb}
 use Rattle.rules.specs.declared.ObjectNumber.{ObjectNumber}
 use Rattle.rules.specs.declared.Kind.{Kind}
 use Rattle.rules.specs.declared.Session.{Session}
-use Rattle.rules.specs.declared.Found.{Found}
+use Rattle.rules.specs.Found.{Found}
 use Rattle.rules.specs.declared.Found.TheVariants as found_at
 use Rattle.rules.specs.Basic.{among, is_some, or_else}
 use Rattle.rules.specs.Command.{object_number}
@@ -42,16 +42,16 @@ module _ (c b : List ℕ) (s : Session) (n : ℕ) (e : n ≡ object_number c) (s
   unfolding seen in_session among
   in_store = rw (← e) (named_in_store n (seen_in b s) (rw (ne_eqb n 0xE0C0 g, ne_eqb n 0xF1C0 a, ne_eqb n 0xF1C2 l)))
 
-  pub found_named : (p : ℕ) → r ≡ found_at.At p → target_object (InStore p) b ≡ named (object_number c) (seen_in b s)
+  pub found_named : (p : ℕ) → r ≡ Some p → target_object (InStore p) b ≡ named (object_number c) (seen_in b s)
   unfolding target_object
   found_named p h = sym (in_store ∙ finds_it n p b (or_else (unpack b) []) (some_else (unpack b) [] sound) (sym in_all ∙ h))
 
-  pub found_stored : (p : ℕ) → r ≡ found_at.At p → Stored p b
+  pub found_stored : (p : ℕ) → r ≡ Some p → Stored p b
   found_stored p h = stored_there n p b (or_else (unpack b) []) (some_else (unpack b) [] sound) (sym in_all ∙ h)
 
-  pub found_there : (p : ℕ) → r ≡ found_at.At p → found (object_number c) (or_else (unpack b) []) ≡ found_at.At p
+  pub found_there : (p : ℕ) → r ≡ Some p → found (object_number c) (or_else (unpack b) []) ≡ Some p
   found_there p h = rw (← e) (sym in_all ∙ h)
 
-  pub nothing_named : r ≡ found_at.Nothing → target_object Nothing b ≡ named (object_number c) (seen_in b s)
+  pub nothing_named : r ≡ found_at.Nothing → target_object None b ≡ named (object_number c) (seen_in b s)
   unfolding target_object
   nothing_named h = sym (in_store ∙ nowhere n (or_else (unpack b) []) (sym in_all ∙ h))

@@ -14,10 +14,10 @@ use Rattle.judge.specs.declared.Target.TheVariants.{InSession, InStore, Nothing}
 unfoldable pub target_object : Target → List ℕ → Option Object
 target_object (InSession n k byte) b = some (session_object n.0 k byte)
 target_object (InStore p) b = some (object_at p b)
-target_object Nothing b = none
+target_object None b = none
 
 -- what is known of a target: the kind is the session's; a record stands there, found under the command's object number
 abbrev pub Placed : Target → List ℕ → List ℕ → Type 0
 Placed (InSession n k byte) c b = of_session k ≡ true
-Placed (InStore p) c b = Stored p b × (found (object_number c) (or_else (unpack b) []) ≡ found_at.At p)
-Placed Nothing c b = Unit
+Placed (InStore p) c b = Stored p b × (found (object_number c) (or_else (unpack b) []) ≡ Some p)
+Placed None c b = Unit

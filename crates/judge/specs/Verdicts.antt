@@ -1,12 +1,11 @@
 -- What an action's own steps and step 13 say, by what the code knows of the object.
-use Rattle.std.specs.Prelude.{ℕ, ◌+◌, not, List, [], leb, length, get_or}
+use Rattle.std.specs.Prelude.{ℕ, ◌+◌, not, List, [], leb, length, get_or, Err}
 use Rattle.rules.specs.declared.Kind.{Kind}
 use Rattle.rules.specs.declared.Kind.TheVariants.{LifeCycle}
 use Rattle.rules.specs.declared.Action.{Action}
 use Rattle.rules.specs.declared.Action.TheVariants.{GetData, GetMetadata, Write, EraseAndWrite, SetMetadata, Count, Append, Acknowledge}
 use Rattle.rules.specs.declared.Refusal.TheVariants.{InvalidParam, AccessDenied, BoundaryExceeded, InvalidData}
-use Rattle.rules.specs.declared.Verdict.{Verdict}
-use Rattle.rules.specs.declared.Verdict.TheVariants.{Refused}
+use Rattle.rules.specs.Verdict.{Verdict}
 use Rattle.rules.specs.Command.{offset, sent_data}
 use Rattle.rules.specs.Expression.{may_become}
 use Rattle.rules.specs.Object.{Object, is}
@@ -41,15 +40,15 @@ state_verdict c k byte room =
 abbrev pub session_refused : Kind → Verdict
 session_refused k =
     is LifeCycle k refused InvalidParam or
-    Refused AccessDenied
+    Err AccessDenied
 
 -- each action at an object of the session, access included; the number of the object read does not count
 abbrev pub session_verdict : Action → List ℕ → Kind → ℕ → ℕ → Verdict
 session_verdict GetData c k byte room = own_verdict GetData c (session_object 0 k byte) room
-session_verdict GetMetadata c k byte room = Refused AccessDenied
+session_verdict GetMetadata c k byte room = Err AccessDenied
 session_verdict Write c k byte room = state_verdict c k byte room
 session_verdict EraseAndWrite c k byte room = state_verdict c k byte room
-session_verdict SetMetadata c k byte room = Refused AccessDenied
+session_verdict SetMetadata c k byte room = Err AccessDenied
 session_verdict Count c k byte room = session_refused k
 session_verdict Append c k byte room = session_refused k
 session_verdict Acknowledge c k byte room = session_refused k

@@ -6,13 +6,12 @@ use mathlib.Core.Path.{◌≡◌, refl, sym, ap, ◌∙◌}
 use mathlib.Core.Bool.{Bool, true, false, not, false≢true, not-eq-not}
 use borrow.Author.Tests.{le-leb, leb-true}
 use Rattle.rules.specs.declared.Refusal.{Refusal}
-use Rattle.rules.specs.declared.Verdict.{Verdict}
-use Rattle.rules.specs.declared.Verdict.TheVariants.{Refused}
-use Rattle.std.specs.Prelude.{if◌then◌else◌}
+use Rattle.rules.specs.Verdict.{Verdict}
+use Rattle.std.specs.Prelude.{Err, if◌then◌else◌}
 use Rattle.rules.specs.Chain.{◌refused◌or◌}
 
 -- a step whose test was called: it holds, or it does not and the later steps decide
-pub stop_call : {t q : Bool} (k : Refusal) (later : Verdict) → q ≡ t → q ≡ true → Refused k ≡ (t refused k or later)
+pub stop_call : {t q : Bool} (k : Refusal) (later : Verdict) → q ≡ t → q ≡ true → Err k ≡ (t refused k or later)
 unfolding ◌refused◌or◌
 stop_call k later e h = rw (← e, h)
 

@@ -14,7 +14,7 @@ use Rattle.rules.specs.declared.Direction.{Direction}
 use Rattle.rules.specs.declared.Direction.TheVariants.{Up, Down}
 use Rattle.rules.specs.declared.Action.{Action}
 use Rattle.rules.specs.declared.Action.TheVariants.{GetData, GetMetadata, Write, EraseAndWrite, SetMetadata, Count, Append, Acknowledge}
-use Rattle.rules.specs.declared.Verdict.TheVariants.{Accepted}
+use Rattle.rules.specs.Verdict.{accepted}
 use Rattle.std.specs.Prelude.{if◌then◌else◌}
 use Rattle.rules.specs.Basic.{among, is_some, or_else, big_endian_4}
 use Rattle.rules.specs.Command.{offset, sent_data, step_byte, sent_metadata, sent_body, sent_number}
@@ -236,7 +236,7 @@ write_within o k n h =
     (λ q e. record { within = leb-true (k + n) o.maximum e; whole = λ r. absurd (false≢true (sym q ∙ r)) })
 
 written : (old c : List ℕ) (o : Object) (see : Seen) (new : Object) → object_allowed o ≡ true → length old ≤ o.maximum → is Queue o.kind ≡ false →
-    (writing old c o see).verdict ≡ Accepted → (writing old c o see).stores ≡ some new → Fitting o new
+    (writing old c o see).verdict ≡ accepted → (writing old c o see).stores ≡ some new → Fitting o new
 unfolding writing
 written old c o see new h l plain v e =
     let w = write_within o (offset c) (length (sent_data c)) h (not-false _ (passed _ _ _ v).0) in
@@ -247,7 +247,7 @@ written old c o see new h l plain v e =
 
 -- what an accepted action stores fits: of an append with a body that is allowed
 pub operation_fitting : (a : Action) (c : List ℕ) (o : Object) (see : Seen) (new : Object) → object_allowed o ≡ true →
-    (a ≡ Append → body_allowed (sent_body c) ≡ true) → granted a o see ≡ true → (operation a c o see).verdict ≡ Accepted →
+    (a ≡ Append → body_allowed (sent_body c) ≡ true) → granted a o see ≡ true → (operation a c o see).verdict ≡ accepted →
     (operation a c o see).stores ≡ some new → Fitting o new
 unfolding operation access asked
 operation_fitting GetData c o see new h b g v e = let z : ◌≡◌ {A = ℕ} 0 1 = cc in absurd (omega arith)
@@ -276,7 +276,7 @@ operation_fitting Acknowledge c o see new h b g v e =
 
 -- and nothing is stored in the place of an object of the session
 pub operation_outside : (a : Action) (c : List ℕ) (o : Object) (see : Seen) (new : Object) → granted a o see ≡ true →
-    (operation a c o see).verdict ≡ Accepted → (operation a c o see).stores ≡ some new → of_session o.kind ≡ false
+    (operation a c o see).verdict ≡ accepted → (operation a c o see).stores ≡ some new → of_session o.kind ≡ false
 unfolding operation access asked
 operation_outside GetData c o see new g v e = let z : ◌≡◌ {A = ℕ} 0 1 = cc in absurd (omega arith)
 operation_outside GetMetadata c o see new g v e = let z : ◌≡◌ {A = ℕ} 0 1 = cc in absurd (omega arith)

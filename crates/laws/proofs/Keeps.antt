@@ -13,8 +13,8 @@ use Rattle.rules.specs.declared.Action.TheVariants.{Append}
 use Rattle.rules.specs.declared.Row.{Row}
 use Rattle.rules.specs.declared.Row.TheVariants.{OnObject, OpenApplication, CloseApplication, Unknown}
 use Rattle.rules.specs.declared.Refusal.{Refusal}
-use Rattle.rules.specs.declared.Verdict.{Verdict}
-use Rattle.rules.specs.declared.Verdict.TheVariants.{Refused, Accepted}
+use Rattle.rules.specs.Verdict.{Verdict, accepted}
+use Rattle.std.specs.Prelude.{Ok, Err}
 use Rattle.rules.specs.Basic.{is_some, or_else}
 use Rattle.rules.specs.Command.{row, object_number, sent_body}
 use Rattle.rules.specs.Queue.{body_allowed}
@@ -102,7 +102,7 @@ pub record StoredFits (n : ℕ) (os : List Object) (new : Object) : Type 0 where
 -- so does what a ruling stores that is accepted, of an append with a body that is allowed
 row_fits : (r : Row) (c : List ℕ) (os : List Object) (s : Session) (room : ℕ) (new : Object) → objects_allowed os ≡ true →
     (r ≡ OnObject Append → body_allowed (sent_body c) ≡ true) →
-    late (ruling r c (seen os s)) room ≡ Accepted → (ruling r c (seen os s)).does.stores ≡ some new → StoredFits (object_number c) os new
+    late (ruling r c (seen os s)) room ≡ accepted → (ruling r c (seen os s)).does.stores ≡ some new → StoredFits (object_number c) os new
 unfolding ruling ruling_of setting_session
 row_fits (OnObject a) c os s room new h b v e =
     let p = nine_passed a c (named (object_number c) (seen os s)) (seen os s) room v in
@@ -117,7 +117,7 @@ row_fits CloseApplication c os s room new h b v e = let z : ◌≡◌ {A = ℕ} 
 row_fits Unknown c os s room new h b v e = let z : ◌≡◌ {A = ℕ} 0 1 = cc in absurd (omega arith)
 
 -- a command that the steps 2 to 13 accept, with these objects
-module _ (c : List ℕ) (os : List Object) (s : Session) (room : ℕ) (h : objects_allowed os ≡ true) (v : verdict true c room (seen os s) ≡ Accepted) where
+module _ (c : List ℕ) (os : List Object) (s : Session) (room : ℕ) (h : objects_allowed os ≡ true) (v : verdict true c room (seen os s) ≡ accepted) where
   pub ruling_fits : (new : Object) → (ruling (row c) c (seen os s)).does.stores ≡ some new → StoredFits (object_number c) os new
   unfolding seen
   ruling_fits new e =
@@ -161,15 +161,15 @@ module _ (P : After → Type 0) (c room store : List ℕ) (s : Session) where
 
   -- what holds where no status fits, of every refusal, and of what an accepted command performs, holds of the step
   pub step_by : (length room < 4 → P (unanswered room store s)) →
-      (4 ≤ length room → (r : Refusal) → judgment c room objects now ≡ Refused r → P (declined r room store now)) →
-      (4 ≤ length room → judgment c room objects now ≡ Accepted → P (performed (ruled c objects now) room (or_else objects []))) →
+      (4 ≤ length room → (r : Refusal) → judgment c room objects now ≡ Err r → P (declined r room store now)) →
+      (4 ≤ length room → judgment c room objects now ≡ accepted → P (performed (ruled c objects now) room (or_else objects []))) →
       P (step c room store s)
   unfolding step judged answered
   step_by unanswerable refuses performs =
       if_by P (ltb (length room) 4) (unanswered room store s) (judged c room store objects now) (λ e. unanswerable (ltb-true (length room) 4 e))
       (λ e.
       elim (judgment c room objects now) as (λ v. judgment c room objects now ≡ v → P (answered v (ruled c objects now) room store (or_else objects []) now))
-      [ Refused r ↦ refuses (ltb-false (length room) 4 e) r | Accepted ↦ performs (ltb-false (length room) 4 e) ] refl)
+      [ Err r ↦ refuses (ltb-false (length room) 4 e) r | Ok _ ↦ performs (ltb-false (length room) 4 e) ] refl)
 
 -- a store that is still sound, and as long as it was
 pub record Sound (store after : List ℕ) : Type 0 where
@@ -190,7 +190,7 @@ step_sound c room store os s u =
     rw u (record { objects = _; reads = unpack_pack _ k.allowed; long = long }))
 
 -- a malformed store is refused, and stays as it is
-pub malformed_refused : (c : List ℕ) (room : ℕ) (see : Seen) → verdict false c room see ≡ Accepted → ⊥
+pub malformed_refused : (c : List ℕ) (room : ℕ) (see : Seen) → verdict false c room see ≡ accepted → ⊥
 malformed_refused c room see h =
     false≢true (sym (unfold unsound in (early_passed false c see.session (verdict_passed false c room see h).0).step_2))
 

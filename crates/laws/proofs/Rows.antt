@@ -14,7 +14,7 @@ use Rattle.rules.specs.declared.Action.TheVariants.{GetData, GetMetadata, Write,
 use Rattle.rules.specs.declared.Sizes.{Sizes}
 use Rattle.rules.specs.declared.Row.{Row}
 use Rattle.rules.specs.declared.Row.TheVariants.{OnObject, OpenApplication, CloseApplication, Unknown}
-use Rattle.rules.specs.declared.Verdict.TheVariants.{Accepted}
+use Rattle.rules.specs.Verdict.{accepted}
 use Rattle.rules.specs.Basic.{among}
 use Rattle.rules.specs.Command.{Line, between, size_right, anything, table_line, command_table, known_cmd, no_line, line_in, line_of, cmd, param, row, is_unknown, in_length, in_data, sent_body}
 use Rattle.rules.specs.Queue.{body_allowed}
@@ -103,7 +103,7 @@ sized c h =
     omega (arith, ltb-false (length c) 4 short, eqb-true (in_length c) (length (drop 4 c)) same, length-drop 4 c)
 
 -- one that is accepted has what its line asks at least
-pub in_full : (sound : Bool) (c : List ℕ) (s : Session) → early sound c s ≡ Accepted → (line_of c).sizes.least + 4 ≤ length c
+pub in_full : (sound : Bool) (c : List ℕ) (s : Session) → early sound c s ≡ accepted → (line_of c).sizes.least + 4 ≤ length c
 unfolding wrong_length size_right
 in_full sound c s h =
     let p = early_passed sound c s h in
@@ -111,7 +111,7 @@ in_full sound c s h =
     omega (arith, n, sized c p.step_3)
 
 -- and no more than its line takes
-pub in_limit : (sound : Bool) (c : List ℕ) (s : Session) → early sound c s ≡ Accepted → length c ≤ (line_of c).sizes.most + 4
+pub in_limit : (sound : Bool) (c : List ℕ) (s : Session) → early sound c s ≡ accepted → length c ≤ (line_of c).sizes.most + 4
 unfolding wrong_length size_right
 in_limit sound c s h =
     let p = early_passed sound c s h in
@@ -136,7 +136,7 @@ append_sizes : (c : List ℕ) → AppendSizes (row c) (line_of c).sizes
 unfolding row line_of command_table table_line no_line
 append_sizes c = every_line (λ l. AppendSizes l.row l.sizes) command_table (cmd c) (param c) (search) tt
 
-pub body_sent : (sound : Bool) (c : List ℕ) (s : Session) → early sound c s ≡ Accepted → row c ≡ OnObject Append → body_allowed (sent_body c) ≡ true
+pub body_sent : (sound : Bool) (c : List ℕ) (s : Session) → early sound c s ≡ accepted → row c ≡ OnObject Append → body_allowed (sent_body c) ≡ true
 unfolding sent_body
 body_sent sound c s h r =
     let sizes : (line_of c).sizes ≡ between 3 202 = rw r at (append_sizes c) in

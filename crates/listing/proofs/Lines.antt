@@ -11,9 +11,8 @@ use lib.Dec.{ltb}
 use lib.ListN.{length, get_or, take, drop, length-drop, drop_of_length-le}
 use lib.Seq.{drop-cons, drop-drop}
 use Rattle.rules.specs.declared.Session.{Session}
-use Rattle.rules.specs.declared.Verdict.{Verdict}
-use Rattle.rules.specs.declared.Verdict.TheVariants.{Refused, Accepted}
-use Rattle.std.specs.Prelude.{if◌then◌else◌}
+use Rattle.rules.specs.Verdict.{Verdict, accepted}
+use Rattle.std.specs.Prelude.{Ok, Err, if◌then◌else◌}
 use Rattle.rules.specs.Basic.{zeros, big_endian_at}
 use Rattle.rules.specs.Hex.{ascii}
 use Rattle.rules.specs.Object.{Object}
@@ -30,8 +29,8 @@ either_small : (t : Bool) (v : Verdict) (p : Ruling) (room store : List ℕ) (os
     (if t then unanswered room store s else answered v p room store os s').outcome < 16
 unfolding unanswered answered declined performed
 either_small true v p room store os s s' = omega arith
-either_small false (Refused r) p room store os s s' = omega arith
-either_small false Accepted p room store os s s' = omega arith
+either_small false (Err r) p room store os s s' = omega arith
+either_small false (Ok _) p room store os s s' = omega arith
 
 -- `put_line`
 module _ (n : ℕ) (room' store' : List ℕ) (s' : Session) (c store : List ℕ) (s : Session)

@@ -1,9 +1,8 @@
 -- The store's bytes: `pack` lays objects out as records end to end, `unpack` reads them back. What is not the packing of
 -- allowed objects is malformed. All of it over the size of a slot, then with the present one.
-use Rattle.std.specs.Prelude.{ℕ, zero, suc, ◌+◌, ◌*◌, ◌-◌, Bool, ◌&&◌, List, [], ◌∷◌, ◌++◌, map, eqb, leb, length, get_or, take, drop, if◌then◌else◌}
+use Rattle.std.specs.Prelude.{ℕ, zero, suc, ◌+◌, ◌*◌, ◌-◌, Bool, ◌&&◌, List, [], ◌∷◌, ◌++◌, map, eqb, leb, length, get_or, take, drop, if◌then◌else◌, Some, None}
 use Rattle.std.proofs.Math.Option.{Option, none, some}
-use Rattle.rules.specs.declared.Found.{Found}
-use Rattle.rules.specs.declared.Found.TheVariants.{At, Nothing}
+use Rattle.rules.specs.Found.{Found}
 use Rattle.rules.specs.declared.Slot.{Slot}
 use Rattle.rules.specs.declared.Slot.TheVariants.{Change, Read, Execute}
 use Rattle.rules.specs.Basic.{all, same, rising, joined, zeros, little_endian, little_endian_at}
@@ -146,8 +145,8 @@ replaced o os = map (λ p. if eqb p.number o.number then o else p) os
 
 -- where the record of an object begins in the packing: behind `before` bytes and the records in front of it
 unfoldable pub found_behind : ℕ → ℕ → List Object → Found
-found_behind before n [] = Nothing
-found_behind before n (o ∷ os) = let rest = found_behind (before + record_size o) n os in if eqb n o.number then At before else rest
+found_behind before n [] = None
+found_behind before n (o ∷ os) = let rest = found_behind (before + record_size o) n os in if eqb n o.number then Some before else rest
 
 unfoldable pub found : ℕ → List Object → Found
 found n os = found_behind 0 n os

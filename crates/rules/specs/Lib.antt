@@ -9,6 +9,8 @@ pub mod Expression
 -- What an object holds on the controller
 pub mod Queue
 pub mod Object
+pub mod Kinds
+pub mod Found
 pub mod Layout
 pub mod Counter
 pub mod Factory
@@ -16,6 +18,7 @@ pub mod Session
 pub mod Access
 -- Reading and writing
 pub mod Metadata
+pub mod Verdict
 pub mod Chain
 pub mod Operation
 -- When the element says no, in this order

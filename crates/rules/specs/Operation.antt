@@ -7,8 +7,7 @@ use Rattle.rules.specs.declared.Kind.TheVariants.{Queue, LifeCycle}
 use Rattle.rules.specs.declared.Action.{Action}
 use Rattle.rules.specs.declared.Action.TheVariants.{GetData, GetMetadata, Write, EraseAndWrite, SetMetadata, Count, Append, Acknowledge}
 use Rattle.rules.specs.declared.Refusal.TheVariants.{InvalidParam, InvalidData, BoundaryExceeded, InsufficientBuffer}
-use Rattle.rules.specs.declared.Verdict.{Verdict}
-use Rattle.rules.specs.declared.Verdict.TheVariants.{Accepted}
+use Rattle.rules.specs.Verdict.{Verdict, accepted}
 use Rattle.rules.specs.Basic.{zeros}
 use Rattle.rules.specs.Command.{offset, asked_length, sent_data, step_byte, sent_metadata, sent_body, sent_number}
 use Rattle.rules.specs.Expression.{may_become}
@@ -39,7 +38,7 @@ getting c o see =
     record {
       verdict =
           not (leb (offset c) (used o)) refused BoundaryExceeded or  -- 11: 08
-          Accepted;
+          accepted;
       answer = shown c o.content;
       stores = none;
       -- a get that returns the byte of F1C2 then sets it to 0; another one does not
@@ -47,7 +46,7 @@ getting c o see =
     }
 
 unfoldable pub getting_metadata : Object → Seen → Operation
-getting_metadata o see = record { verdict = Accepted; answer = metadata o; stores = none; session = see.session }
+getting_metadata o see = record { verdict = accepted; answer = metadata o; stores = none; session = see.session }
 
 -- bytes put at offset k: used becomes the larger of used and offset + length; a gap reads as zero
 unfoldable pub put_at : ℕ → List ℕ → List ℕ → List ℕ
@@ -69,7 +68,7 @@ writing old c o see =
       verdict =
           not (write_fits o (offset c) (length (sent_data c))) refused BoundaryExceeded or  -- 11: 08
           not (value_allowed o state) refused InvalidData or  -- 12: 05
-          Accepted;
+          accepted;
       answer = [];
       stores = if of_session o.kind then none else some (with_content (put_at (offset c) (sent_data c) old) o);
       session = with_state o.number state see.session;
@@ -80,7 +79,7 @@ setting_metadata c o see =
     record {
       verdict =
           not (metadata_allowed o.lcso (sent_metadata c)) refused InvalidData or  -- 12: 05
-          Accepted;
+          accepted;
       answer = [];
       stores = some (with_fields (sent_fields (sent_metadata c)) o);
       session = see.session;
@@ -96,7 +95,7 @@ counting c o see =
           not (is_counter o.kind) refused InvalidParam or  -- 03
           not (eqb (offset c) 0) refused BoundaryExceeded or  -- 11: 08
           exhausted d o.content refused BoundaryExceeded or  -- 11: 08
-          Accepted;
+          accepted;
       answer = [];
       stores = some (with_content (after_count d (step_byte c) o.content) o);
       session = see.session;
@@ -112,7 +111,7 @@ appending c o see =
           not (is Queue o.kind) refused InvalidParam or  -- 03
           ltb o.maximum (used o + fare_head + length (sent_body c)) refused BoundaryExceeded or  -- 11: 08
           eqb q.next 0xFFFFFFFF refused InsufficientBuffer or  -- 13: 0D
-          Accepted;
+          accepted;
       answer = [];
       stores = some (with_content (queue_bytes (appended (sent_body c) q)) o);
       session = see.session;
@@ -126,7 +125,7 @@ acknowledging c o see =
       verdict =
           not (is Queue o.kind) refused InvalidParam or  -- 03
           not (present_in q.fares (sent_number c)) refused InvalidData or  -- 12: 05
-          Accepted;
+          accepted;
       answer = [];
       stores = some (with_content (queue_bytes (acknowledged (sent_number c) q)) o);
       session = see.session;
@@ -146,4 +145,4 @@ operation Acknowledge c o see = acknowledging c o see
 
 -- what a command does that names no object: it answers with no data, and this is the session after it
 unfoldable pub setting_session : Session → Operation
-setting_session s = record { verdict = Accepted; answer = []; stores = none; session = s }
+setting_session s = record { verdict = accepted; answer = []; stores = none; session = s }

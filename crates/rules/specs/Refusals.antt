@@ -1,5 +1,5 @@
 -- When the element says no, in this order: the steps 2 to 13. Step 1 and the flush are in Step.
-use Rattle.std.specs.Prelude.{ℕ, ◌+◌, Bool, true, false, not, ◌&&◌, ◌||◌, List, [], eqb, ltb, length}
+use Rattle.std.specs.Prelude.{ℕ, ◌+◌, Bool, true, false, not, ◌&&◌, ◌||◌, List, [], eqb, ltb, length, Err}
 use Rattle.std.proofs.Math.Option.{Option, none, some}
 use Rattle.rules.specs.declared.Session.{Session}
 use Rattle.rules.specs.declared.Action.{Action}
@@ -7,8 +7,7 @@ use Rattle.rules.specs.declared.Row.{Row}
 use Rattle.rules.specs.declared.Row.TheVariants.{OnObject, OpenApplication, CloseApplication, Unknown}
 use Rattle.rules.specs.declared.Refusal.TheVariants.{InvalidObject, InvalidParam, InvalidLength, InvalidData, InternalError}
 use Rattle.rules.specs.declared.Refusal.TheVariants.{AccessDenied, InvalidCommand, NotAvailable, InsufficientBuffer}
-use Rattle.rules.specs.declared.Verdict.{Verdict}
-use Rattle.rules.specs.declared.Verdict.TheVariants.{Refused, Accepted}
+use Rattle.rules.specs.Verdict.{Verdict, accepted}
 use Rattle.rules.specs.Command.{cmd, row, line_of, size_right, in_length, in_data, known_cmd, command_table, is_unknown, object_number}
 use Rattle.rules.specs.Expression.{is_state}
 use Rattle.rules.specs.Object.{Object}
@@ -58,7 +57,7 @@ early sound c s =
     unknown_param c refused InvalidParam or  -- 6: 03
     wrong_length c refused InvalidLength or  -- 7: 04
     wrong_content c refused InvalidData or  -- 8: 05
-    Accepted
+    accepted
 
 -- what the steps 9 to 12 say of a command, and what it does where none refuses
 pub record Ruling : Type 0 where
@@ -69,7 +68,7 @@ pub record Ruling : Type 0 where
 
 -- with the object that the command names
 unfoldable pub ruling_on : Action → List ℕ → Option Object → Seen → Ruling
-ruling_on a c none see = record { verdict = Refused InvalidObject; does = setting_session see.session; counters = [] }  -- 9: 01
+ruling_on a c none see = record { verdict = Err InvalidObject; does = setting_session see.session; counters = [] }  -- 9: 01
 ruling_on a c (some o) see =
     let g = access a o see in
     let p = operation a c o see in
@@ -83,7 +82,7 @@ ruling_on a c (some o) see =
 
 -- a row that names no object
 unfoldable pub ruling_of : Session → Ruling
-ruling_of s = record { verdict = Accepted; does = setting_session s; counters = [] }
+ruling_of s = record { verdict = accepted; does = setting_session s; counters = [] }
 
 -- Open and close answer with no data. The last error survives opening and closing.
 unfoldable pub ruling : Row → List ℕ → Seen → Ruling
@@ -97,7 +96,7 @@ ruling Unknown c see = ruling_of see.session
 unfoldable pub fitting : ℕ → ℕ → Verdict
 fitting n room =
     ltb room (4 + n) refused InsufficientBuffer or  -- 13: 0D
-    Accepted
+    accepted
 
 -- 9 to 13
 unfoldable pub late : Ruling → ℕ → Verdict

@@ -1,10 +1,9 @@
 -- One command: step 1, the flush, the verdict of the steps 2 to 13, and what comes of it.
-use Rattle.std.specs.Prelude.{ℕ, max, List, [], ltb, length, if◌then◌else◌}
+use Rattle.std.specs.Prelude.{ℕ, max, List, [], ltb, length, if◌then◌else◌, Ok, Err}
 use Rattle.std.proofs.Math.Option.{Option, none, some}
 use Rattle.rules.specs.declared.Session.{Session}
 use Rattle.rules.specs.declared.Refusal.{Refusal}
-use Rattle.rules.specs.declared.Verdict.{Verdict}
-use Rattle.rules.specs.declared.Verdict.TheVariants.{Refused, Accepted}
+use Rattle.rules.specs.Verdict.{Verdict}
 use Rattle.rules.specs.Basic.{is_some, or_else}
 use Rattle.rules.specs.Command.{asks_flush, row}
 use Rattle.rules.specs.Response.{code, done_response, refused_response, put_in_front}
@@ -49,8 +48,8 @@ performed r room os =
 
 -- what comes of a verdict
 unfoldable pub answered : Verdict → Ruling → List ℕ → List ℕ → List Object → Session → After
-answered (Refused n) r room store os s = declined n room store s
-answered Accepted r room store os s = performed r room os
+answered (Err n) r room store os s = declined n room store s
+answered (Ok _) r room store os s = performed r room os
 
 -- steps 2 to 13; `objects`: those of the store, none where it is malformed
 unfoldable pub judged : List ℕ → List ℕ → List ℕ → Option (List Object) → Session → After

@@ -1,8 +1,12 @@
 // The types that every crate shares, and the tags of metadata. specs/ gives each case the number and the values of document 01.
 #![tactic(auto)]
 
+ghost use Rattle.std.specs.Prelude.{◌≡◌};
+ghost use Rattle.rules.specs.Response.{code};
+ghost use Rattle.rules.specs.Kinds.{record_kind};
+
 // What the element keeps between commands: application open or closed, LcsG, LcsA, last error.
-#[derive(Clone, Copy)]
+#[derive(Clone, Copy, Debug, PartialEq, Eq)]
 pub struct Session {
     pub opened: bool,
     pub lcsg: u8,
@@ -11,19 +15,19 @@ pub struct Session {
 }
 
 // The number of an object.
-#[derive(Clone, Copy)]
+#[derive(Clone, Copy, Debug, PartialEq, Eq)]
 pub struct ObjectNumber(pub u16);
 
 // How far into an object's data.
-#[derive(Clone, Copy)]
+#[derive(Clone, Copy, Debug, PartialEq, Eq)]
 pub struct Offset(pub usize);
 
 // A count of bytes.
-#[derive(Clone, Copy)]
+#[derive(Clone, Copy, Debug, PartialEq, Eq)]
 pub struct Length(pub usize);
 
 // Why a command is refused.
-#[derive(Clone, Copy)]
+#[derive(Clone, Copy, Debug, PartialEq, Eq)]
 pub enum Refusal {
     InvalidObject,
     InvalidParam,
@@ -38,21 +42,36 @@ pub enum Refusal {
 }
 
 // What the steps 2 to 13 say of a command.
-#[derive(Clone, Copy)]
-pub enum Verdict {
-    Refused(Refusal),
-    Accepted,
+pub type Verdict = Result<(), Refusal>;
+
+impl From<Refusal> for u8 {
+    ghost from_gives = { λ refusal number. number ≡ code refusal };
+
+    fn from(refusal: Refusal) -> u8 {
+        match refusal {
+            Refusal::InvalidObject => 0x01,
+            Refusal::InvalidParam => 0x03,
+            Refusal::InvalidLength => 0x04,
+            Refusal::InvalidData => 0x05,
+            Refusal::InternalError => 0x06,
+            Refusal::AccessDenied => 0x07,
+            Refusal::BoundaryExceeded => 0x08,
+            Refusal::InvalidCommand => 0x0A,
+            Refusal::NotAvailable => 0x0C,
+            Refusal::InsufficientBuffer => 0x0D,
+        }
+    }
 }
 
 // Which way a counter counts to its threshold.
-#[derive(Clone, Copy)]
+#[derive(Clone, Copy, Debug, PartialEq, Eq)]
 pub enum Direction {
     Up,
     Down,
 }
 
 // The kind of an object: that of a record, or one of the session's.
-#[derive(Clone, Copy)]
+#[derive(Clone, Copy, Debug, PartialEq, Eq)]
 pub enum Kind {
     Data,
     Counter(Direction),
@@ -61,8 +80,28 @@ pub enum Kind {
     Status,
 }
 
+// A number that no kind of a record has.
+#[derive(Clone, Copy, Debug, PartialEq, Eq)]
+pub struct UnknownKind(pub u16);
+
+impl TryFrom<u16> for Kind {
+    type Error = UnknownKind;
+
+    ghost try_from_gives = { λ number result. result ≡ record_kind number };
+
+    fn try_from(number: u16) -> Result<Self, UnknownKind> {
+        match number {
+            0x0001 => Ok(Kind::Data),
+            0x0002 => Ok(Kind::Counter(Direction::Up)),
+            0x0003 => Ok(Kind::Queue),
+            0x0004 => Ok(Kind::Counter(Direction::Down)),
+            _ => Err(UnknownKind(number)),
+        }
+    }
+}
+
 // What a command does with the object that it names.
-#[derive(Clone, Copy)]
+#[derive(Clone, Copy, Debug, PartialEq, Eq)]
 pub enum Action {
     GetData,
     GetMetadata,
@@ -75,7 +114,7 @@ pub enum Action {
 }
 
 // The row of the command table that Cmd and Param name.
-#[derive(Clone, Copy)]
+#[derive(Clone, Copy, Debug, PartialEq, Eq)]
 pub enum Row {
     OnObject(Action),
     OpenApplication,
@@ -84,21 +123,14 @@ pub enum Row {
 }
 
 // How many bytes InData may have.
-#[derive(Clone, Copy)]
+#[derive(Clone, Copy, Debug, PartialEq, Eq)]
 pub struct Sizes {
     pub least: usize,
     pub most: usize,
 }
 
-// Where the record of an object begins in the store.
-#[derive(Clone, Copy)]
-pub enum Found {
-    At(usize),
-    Nothing,
-}
-
 // The three slots of a record, for change, read and execute.
-#[derive(Clone, Copy)]
+#[derive(Clone, Copy, Debug, PartialEq, Eq)]
 pub enum Slot {
     Change,
     Read,

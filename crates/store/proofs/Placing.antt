@@ -9,10 +9,9 @@ use native.Mathlib.Omega.{arith}
 use lib.Dec.{eqb}
 use lib.ListN.{length, drop, length-append}
 use lib.Seq.{drop_at}
-use Rattle.rules.specs.declared.Found.TheVariants.{At, Nothing}
+use Rattle.std.specs.Prelude.{Some, None}
 use Rattle.rules.specs.Object.{Object, object_allowed, all_allowed, all_allowed_with}
-use Rattle.rules.specs.Layout.{record_size, record_bytes, pack, unpack, pack_with}
-use Rattle.rules.specs.Layout.{find, replaced, found_behind, found}
+use Rattle.rules.specs.Layout.{record_size, record_bytes, pack, unpack, pack_with, find, replaced, found_behind, found}
 use Rattle.laws.proofs.Facts.{allowed, AllAllowed, all_allowed_facts}
 use Rattle.laws.proofs.Tests.{by_test, and_left, and_right}
 use Rattle.laws.proofs.Inverse.{record_length, pack_unpack}
@@ -22,15 +21,15 @@ use Rattle.primitives.proofs.Over.{over_part}
 use Rattle.record.specs.Places.{object_at, Stored, with_record}
 use Rattle.record.proofs.Standing.{object_here, stands_here, stored_facts}
 
-none_behind : (q n : ℕ) (os : List Object) → found_behind q n os ≡ Nothing → find n os ≡ none
+none_behind : (q n : ℕ) (os : List Object) → found_behind q n os ≡ None → find n os ≡ none
 unfolding found_behind find
 none_behind q n [] e = refl
 none_behind q n (o ∷ os) e =
     by_test (eqb n o.number)
-    (λ t. let z : At q ≡ Nothing = rw t at e in let z : ◌≡◌ {A = ℕ} 0 1 = cc in absurd (omega arith))
+    (λ t. let z : Some q ≡ None = rw t at e in let z : ◌≡◌ {A = ℕ} 0 1 = cc in absurd (omega arith))
     (λ t. rw t (none_behind (q + record_size o) n os (rw t at e)))
 
-pub nowhere : (n : ℕ) (os : List Object) → found n os ≡ Nothing → find n os ≡ none
+pub nowhere : (n : ℕ) (os : List Object) → found n os ≡ None → find n os ≡ none
 unfolding found
 nowhere n os e = none_behind 0 n os e
 
@@ -44,14 +43,14 @@ record Lies (q n p : ℕ) (os : List Object) : Type 0 where
   spot : p ≡ q + length (pack before)
   ok : object_allowed object ≡ true
 
-lies_behind : (q n p : ℕ) (os : List Object) → all_allowed os ≡ true → found_behind q n os ≡ At p → Lies q n p os
+lies_behind : (q n p : ℕ) (os : List Object) → all_allowed os ≡ true → found_behind q n os ≡ Some p → Lies q n p os
 unfolding found_behind find pack_with all_allowed_with
 lies_behind q n p [] k e = let z : ◌≡◌ {A = ℕ} 0 1 = cc in absurd (omega arith)
 lies_behind q n p (o ∷ os) k e =
     let ok = and_left (object_allowed o) (all_allowed os) k in
     by_test (eqb n o.number)
     (λ t.
-    let here : At q ≡ At p = rw t at e in
+    let here : Some q ≡ Some p = rw t at e in
     let same : q ≡ p = cc in
     record { before = []; object = o; after = os; split = refl; finds = rw t; spot = omega arith; ok = ok })
     (λ t.
@@ -66,7 +65,7 @@ lies_behind q n p (o ∷ os) k e =
       ok = l.ok;
     })
 
-module _ (n p : ℕ) (b : List ℕ) (os : List Object) (u : unpack b ≡ some os) (e : found n os ≡ At p) where
+module _ (n p : ℕ) (b : List ℕ) (os : List Object) (u : unpack b ≡ some os) (e : found n os ≡ Some p) where
   facts : AllAllowed os
   facts = all_allowed_facts os (pack_unpack b os u).1
 

@@ -8,10 +8,9 @@ use native.Mathlib.Nat.{zero-add}
 use borrow.Author.Tests.{eq-eqb, ne_eqb, le-leb, lt-leb}
 use lib.Dec.{leb}
 use lib.ListN.{length, drop, length-drop, take-append-drop, drop_of_length-le}
-use Rattle.std.specs.Prelude.{if◌then◌else◌}
+use Rattle.std.specs.Prelude.{if◌then◌else◌, Some, None}
 use Rattle.rules.specs.Object.{Object, object_allowed, all_allowed, all_allowed_with}
 use Rattle.rules.specs.Layout.{slot_size, head_size, record_size, record_bytes, size, pack, read_record, read_records_with, pack_with, found_behind, found}
-use Rattle.rules.specs.declared.Found.TheVariants.{At, Nothing}
 use Rattle.laws.proofs.Tests.{and_left, and_right, same_eq}
 use Rattle.laws.proofs.Inverse.{nothing_read}
 use Rattle.record.specs.Places.{object_at, Stored}
@@ -81,7 +80,7 @@ unfolding way found
 start n b h = record { left = length b; enough = omega arith; leading = leads_facts n b h; same = refl; inside = omega arith }
 
 module _ (n at : ℕ) (b : List ℕ) (a : Ahead n b at) where
-  pub search_end : length b ≤ at → Nothing ≡ found n (way n b)
+  pub search_end : length b ≤ at → None ≡ found n (way n b)
   unfolding up_to found_behind
   search_end h = sym (a.same ∙ rw (drop_of_length-le b h, nothing_read a.left))
 
@@ -102,11 +101,11 @@ module _ (n at : ℕ) (b : List ℕ) (a : Ahead n b at) where
 
     -- what the calls gave: the number of the object there, and where its record ends
     module _ (k : ℕ) (ek : k ≡ (object_at at b).number) where
-      pub found_here : n ≤ k → k ≤ n → At at ≡ found n (way n b)
+      pub found_here : n ≤ k → k ≤ n → Some at ≡ found n (way n b)
       unfolding found_behind
       found_here l u = sym (opened ∙ rw (eq-eqb n (object_at at b).number (omega arith)))
 
-      pub passed : n < k → Nothing ≡ found n (way n b)
+      pub passed : n < k → None ≡ found n (way n b)
       unfolding found_behind
       passed l = sym (opened ∙ rw (ne_eqb n (object_at at b).number (λ e. omega arith), le-leb n (object_at at b).number (omega arith)))
 

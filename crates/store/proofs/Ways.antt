@@ -9,9 +9,8 @@ use borrow.Author.Tests.{ltb-true, leb-true, ne_eqb}
 use lib.Dec.{eqb, ltb, leb}
 use lib.ListN.{length, take, length-append}
 use lib.Seq.{take_at}
-use Rattle.rules.specs.declared.Found.{Found}
-use Rattle.rules.specs.declared.Found.TheVariants.{At, Nothing}
-use Rattle.std.specs.Prelude.{if◌then◌else◌}
+use Rattle.rules.specs.Found.{Found}
+use Rattle.std.specs.Prelude.{Some, None, if◌then◌else◌}
 use Rattle.rules.specs.Basic.{is_some, or_else, rising_from, rising}
 use Rattle.rules.specs.Object.{Object, object_allowed, all_allowed, all_allowed_with}
 use Rattle.rules.specs.Layout.{slot_size, record_size, record_bytes, size, objects_allowed, pack, unpack, read_record, read_records_with, pack_with, size_with, found_behind, found}
@@ -54,7 +53,7 @@ module _ (n : ℕ) where
   up_to_again (o ∷ os) = by_test (leb n o.number) (λ t. rw t) (λ t. rw t (ap (λ x. o ∷ x) (up_to_again os)))
 
   -- numbers that rise: what is above n is not found
-  none_above : (q k : ℕ) (os : List Object) → n ≤ k → rising_from k (numbers os) ≡ true → found_behind q n os ≡ Nothing
+  none_above : (q k : ℕ) (os : List Object) → n ≤ k → rising_from k (numbers os) ≡ true → found_behind q n os ≡ None
   unfolding found_behind rising_from numbers
   none_above q k [] l h = refl
   none_above q k (o ∷ os) l h =
@@ -72,7 +71,7 @@ module _ (n : ℕ) where
   found_up_to q [] h = refl
   found_up_to q (o ∷ os) h =
       let on = q + record_size o in
-      ap (λ x. if eqb n o.number then At q else x)
+      ap (λ x. if eqb n o.number then Some q else x)
       (by_test (leb n o.number)
       (λ t. rw t (sym (none_above on o.number os (leb-true n o.number t) h)))
       (λ t. rw t (found_up_to on os (rises_on o.number (numbers os) h))))

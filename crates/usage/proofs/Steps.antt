@@ -11,8 +11,8 @@ use borrow.Author.Tests.{eq-eqb, ne_eqb}
 use lib.Dec.{eqb}
 use lib.ListN.{length, get_or, take, drop}
 use lib.Seq.{take-suc, drop-cons}
-use Rattle.rules.specs.declared.Found.{Found}
-use Rattle.rules.specs.declared.Found.TheVariants.{At, Nothing}
+use Rattle.rules.specs.Found.{Found}
+use Rattle.std.specs.Prelude.{Some, None}
 use Rattle.rules.specs.declared.Kind.TheVariants.{Counter}
 use Rattle.rules.specs.declared.Direction.TheVariants.{Up}
 use Rattle.rules.specs.Basic.{among, is_some, or_else}
@@ -84,11 +84,11 @@ module _ (b : List ℕ) (sound : is_some (unpack b) ≡ true) where
     in_all : r ≡ found n objects
     in_all = sound_find n b sound r on_way
 
-    pub step_nothing : r ≡ Nothing → b ≡ pack (all_used_up (n ∷ []) objects)
+    pub step_nothing : r ≡ None → b ≡ pack (all_used_up (n ∷ []) objects)
     step_nothing h = sym (ap pack (absent_kept n objects (nowhere n objects (sym in_all ∙ h))) ∙ packed)
 
-    module _ (p : ℕ) (h : r ≡ At p) where
-      there : found n objects ≡ At p
+    module _ (p : ℕ) (h : r ≡ Some p) where
+      there : found n objects ≡ Some p
       there = sym in_all ∙ h
 
       pub step_stored : Stored p b

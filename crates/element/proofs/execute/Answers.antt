@@ -9,8 +9,8 @@ returns-then-room-lt4 c = search too_small
 pub carry_out-requires : goal.carry_out-requires
 carry_out-requires c = (search early_passes, search rules)
 
-pub returns-in-Refused : goal.returns-in-Refused
-returns-in-Refused c = search early_refused
+pub returns-in-Err : goal.returns-in-Err
+returns-in-Err c = search early_refused
 
-pub returns-in-Accepted : goal.returns-in-Accepted
-returns-in-Accepted c = search step_by
+pub returns-in-Ok : goal.returns-in-Ok
+returns-in-Ok c = search step_by

@@ -13,8 +13,8 @@ judge_target-judgment-requires c = (search action_in_full, search accepted_sound
 pub perform-requires : goal.perform-requires
 perform-requires c = (search action_in_full, search action_body, search accepted_sound, search rules, told c.judge_target-judgment.ensures.0 (search rules), search rules, search rules)
 
-pub returns-in-Refused : goal.returns-in-Refused
-returns-in-Refused c = search refused_late
+pub returns-in-Err : goal.returns-in-Err
+returns-in-Err c = search refused_late
 
-pub returns-in-Accepted : goal.returns-in-Accepted
-returns-in-Accepted c = search accepted_late
+pub returns-in-Ok : goal.returns-in-Ok
+returns-in-Ok c = search accepted_late

@@ -2,10 +2,10 @@
 use Rattle.rules.specs.Chain.{◌and_then◌}
 use Rattle.judge.proofs.and_fits.Goals as goal
 
-pub returns-in-Refused : goal.returns-in-Refused
+pub returns-in-Err : goal.returns-in-Err
 unfolding ◌and_then◌
-returns-in-Refused c = cc
+returns-in-Err c = cc
 
-pub returns-in-Accepted : goal.returns-in-Accepted
+pub returns-in-Ok : goal.returns-in-Ok
 unfolding ◌and_then◌
-returns-in-Accepted c = cc
+returns-in-Ok c = cc
