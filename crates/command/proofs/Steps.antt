@@ -1,17 +1,18 @@
 -- The tests of the steps 2 to 8, from what the code reads.
 use Prim.Native.Nat.{ℕ, ◌+◌, ◌*◌, ◌-◌, ◌<◌, ◌≤◌}
-use mathlib.Core.Path.{◌≡◌, sym, ap, ◌∙◌}
-use mathlib.Core.List.{List}
+use mathlib.Core.Path.{◌≡◌, refl, sym, ap, ◌∙◌}
+use mathlib.Core.List.{List, [], ◌∷◌}
 use mathlib.Core.Bool.{Bool, true, false, not, ◌&&◌, not-eq-not}
 use native.Mathlib.Omega.{arith}
 use native.Mathlib.Numerals.{add-one}
 use borrow.Author.Tests.{eq-eqb, ne_eqb, le-ltb}
 use borrow.Author.Rules.{part_to_end}
 use lib.Dec.{eqb}
+use lib.Pointwise.{pointwise}
 use lib.ListN.{length, get_or, take, drop, length-drop, drop_of_length-le}
 use lib.Seq.{drop-cons}
 use Rattle.rules.specs.declared.Row.{Row}
-use Rattle.rules.specs.declared.Row.TheVariants.{OpenApplication}
+use Rattle.rules.specs.declared.Row.TheVariants.{OnObject, OpenApplication, CloseApplication, Unknown}
 use Rattle.rules.specs.declared.Sizes.{Sizes}
 use Rattle.rules.specs.declared.Session.{Session}
 use Rattle.rules.specs.Basic.{same}
@@ -20,6 +21,7 @@ use Rattle.rules.specs.Expression.{is_state}
 use Rattle.rules.specs.Refusals.{unsound, ill_sized, unusable, unknown_param, wrong_length, wrong_content}
 use Rattle.laws.proofs.Tests.{same_eq}
 use Rattle.laws.proofs.Rows.{sized as in_length_told}
+use Rattle.std.proofs.lemmas.Grind.{common_steps}
 use Rattle.command.specs.Table.{row_sizes}
 use Rattle.command.proofs.Table.{takes, sizes_alike, takes_alike}
 
@@ -68,30 +70,29 @@ length_told c w z n q e f g h = cc (sizes_alike c)
 
 -- 8 -----------------------------------------------------------------------------------------------------------------------
 
-pub same_other : (a b : List ℕ) → (length a ≡ length b → ⊥) → false ≡ same a b
-same_other a b h = sym (not-eq-not.0 (λ e. h (ap length (same_eq a b e))))
+eqb_sym : (a b : ℕ) → eqb a b ≡ eqb b a
+eqb_sym a b = grind (arith, common_steps)
 
-module _ (w : Bool) (a b : List ℕ) (i : ℕ) (inv : w ≡ same (drop i a) (drop i b)) (k : length a ≡ length b) where
-  module _ (h : i < length a) where
-    same_step : w ≡ (eqb (get_or a i 0) (get_or b i 0) && same (drop (i + 1) a) (drop (i + 1) b))
-    unfolding same
-    same_step = inv ∙ (λ j. same (drop-cons a i 0 h j) (drop-cons b i 0 (omega arith) j)) ∙ rw add-one
+-- what the library compares is what the rules compare
+alike : (a b : List ℕ) → pointwise eqb a b ≡ same b a
+unfolding same
+alike [] [] = refl
+alike [] (y ∷ b) = refl
+alike (x ∷ a) [] = refl
+alike (x ∷ a) (y ∷ b) = rw (alike a b, eqb_sym x y)
 
-    pub same_found : (get_or a i 0 ≡ get_or b i 0 → ⊥) → false ≡ w
-    same_found n = sym (same_step ∙ rw (ne_eqb _ _ n))
-
-    pub same_turn : get_or a i 0 ≡ get_or b i 0 → w ≡ same (drop (i + 1) a) (drop (i + 1) b)
-    same_turn n = same_step ∙ rw (eq-eqb _ _ n)
-
-  pub same_end : i ≤ length a → length a ≤ i → true ≡ w
-  unfolding same
-  same_end h l = let m : length b ≤ i = omega arith in rw (inv, drop_of_length-le a l, drop_of_length-le b m)
-
-pub opens_with : (c d : List ℕ) (w : Row) (q : Bool) → w ≡ row c → w ≡ OpenApplication → q ≡ same d (take (length c - 4) (drop 4 c)) → d ≡ identifier →
-    not q ≡ wrong_content c
+pub opens_with : (c d : List ℕ) (w : Row) (q : Bool) → w ≡ row c → w ≡ OpenApplication → q ≡ not (pointwise eqb (take (length c - 4) (drop 4 c)) d) →
+    d ≡ identifier → q ≡ wrong_content c
 unfolding wrong_content in_data
-opens_with c d w q e h f g = cc (takes_alike c (drop 4 c), part_to_end c 4)
+opens_with c d w q e h f g = cc (takes_alike c (drop 4 c), part_to_end c 4, alike (take (length c - 4) (drop 4 c)) d)
 
-pub no_content : (c : List ℕ) (w v : Row) → w ≡ row c → w ≡ v → ((b : List ℕ) → takes v b ≡ true) → false ≡ wrong_content c
+-- any content will do for another row
+any_taken : (r : Row) (b : List ℕ) → (r ≡ OpenApplication → ⊥) → takes r b ≡ true
+any_taken (OnObject a) b h = refl
+any_taken OpenApplication b h = absurd (h refl)
+any_taken CloseApplication b h = refl
+any_taken Unknown b h = refl
+
+pub no_content : (c : List ℕ) (w : Row) → w ≡ row c → (w ≡ OpenApplication → ⊥) → false ≡ wrong_content c
 unfolding wrong_content
-no_content c w v e h t = cc (takes_alike c (in_data c), t (in_data c))
+no_content c w e h = cc (takes_alike c (in_data c), any_taken (row c) (in_data c) (λ z. h (e ∙ z)))

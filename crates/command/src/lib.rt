@@ -2,30 +2,29 @@
 #![tactic(auto)]
 
 ghost use Rattle.std.specs.Prelude.{◌≡◌, ◌≤◌, length};
-ghost use Rattle.rules.specs.Basic.{same};
 ghost use Rattle.rules.specs.Command.{asks_flush, cmd, command_table, row, known_cmd, size_right};
 ghost use Rattle.rules.specs.Command.{object_number, offset, asked_length, sent_data, step_byte, sent_metadata, sent_body, sent_number};
 ghost use Rattle.rules.specs.Refusals.{unsound, ill_sized, unknown_cmd, unusable, unknown_param, wrong_length, wrong_content};
 ghost use Rattle.rules.specs.Refusals.{early};
-ghost use Rattle.rules.specs.Response.{code};
 ghost use Rattle.rules.specs.Step.{flushed};
-ghost use Rattle.command.specs.Table.{row_in, session_row, action_sizes, row_sizes};
+ghost use Rattle.command.specs.Table.{row_in, action_sizes, row_sizes};
 
-use rules::{Action, Length, ObjectNumber, Offset, Refusal, Row, Session, Sizes, Verdict};
+use rules::{
+    Action, Length, ObjectNumber, Offset, Refusal, Row, Session, Sizes, Verdict, refuse_if,
+};
 
 // The parts of a command.
 
 // The top bit of Cmd; an empty command has none.
+#[tactic(auto, unfolding(rules::specs::Command::asks_flush))]
 pub fn asks_flush(command: &[u8]) -> bool
     ensures { result ≡ asks_flush command.now }
 {
-    if command.len() < 1 {
-        return false;
-    }
-    0x80 <= command[0]
+    !command.is_empty() && 0x80 <= command[0]
 }
 
 // Cmd, the flush bit aside.
+#[tactic(auto, unfolding(rules::specs::Command::cmd))]
 fn cmd(command: &[u8]) -> u8
     requires { 1 ≤ length command.now }
     ensures { result ≡ cmd command.now }
@@ -33,67 +32,24 @@ fn cmd(command: &[u8]) -> u8
     command[0] % 0x80
 }
 
-// The row of a get's Param.
-fn get_row(param: u8) -> Row
-    ensures { result ≡ row_in command_table 0x01 param }
-{
-    if param == 0x00 {
-        return Row::OnObject(Action::GetData);
-    }
-    if param == 0x01 {
-        return Row::OnObject(Action::GetMetadata);
-    }
-    Row::Unknown
-}
-
-// The row of a set's Param.
-fn set_row(param: u8) -> Row
-    ensures { result ≡ row_in command_table 0x02 param }
-{
-    if param == 0x00 {
-        return Row::OnObject(Action::Write);
-    }
-    if param == 0x40 {
-        return Row::OnObject(Action::EraseAndWrite);
-    }
-    if param == 0x01 {
-        return Row::OnObject(Action::SetMetadata);
-    }
-    if param == 0x02 {
-        return Row::OnObject(Action::Count);
-    }
-    if param == 0x04 {
-        return Row::OnObject(Action::Append);
-    }
-    if param == 0x05 {
-        return Row::OnObject(Action::Acknowledge);
-    }
-    Row::Unknown
-}
-
-// The row of any other Cmd and its Param.
-fn session_row(cmd: u8, param: u8) -> Row
-    ensures { result ≡ session_row cmd param }
-{
-    if primitives::and(cmd == 0x70, param == 0x00) {
-        return Row::OpenApplication;
-    }
-    if primitives::and(cmd == 0x71, param == 0x00) {
-        return Row::CloseApplication;
-    }
-    Row::Unknown
-}
-
+// The command table.
+#[tactic(auto, unfolding(crate::specs::Table::row_in, rules::specs::Command::command_table, rules::specs::Command::table_line))]
 fn row_of(cmd: u8, param: u8) -> Row
     ensures { result ≡ row_in command_table cmd param }
 {
-    if cmd == 0x01 {
-        return get_row(param);
+    match (cmd, param) {
+        (0x01, 0x00) => Row::OnObject(Action::GetData),
+        (0x01, 0x01) => Row::OnObject(Action::GetMetadata),
+        (0x02, 0x00) => Row::OnObject(Action::Write),
+        (0x02, 0x40) => Row::OnObject(Action::EraseAndWrite),
+        (0x02, 0x01) => Row::OnObject(Action::SetMetadata),
+        (0x02, 0x02) => Row::OnObject(Action::Count),
+        (0x02, 0x04) => Row::OnObject(Action::Append),
+        (0x02, 0x05) => Row::OnObject(Action::Acknowledge),
+        (0x70, 0x00) => Row::OpenApplication,
+        (0x71, 0x00) => Row::CloseApplication,
+        _ => Row::Unknown,
     }
-    if cmd == 0x02 {
-        return set_row(param);
-    }
-    session_row(cmd, param)
 }
 
 pub fn row_of_command(command: &[u8]) -> Row
@@ -103,12 +59,16 @@ pub fn row_of_command(command: &[u8]) -> Row
     row_of(cmd(command), command[1])
 }
 
+#[tactic(auto, unfolding(rules::specs::Command::object_number))]
+
 pub fn object_number(command: &[u8]) -> ObjectNumber
     requires { 6 ≤ length command.now }
     ensures { result.0 ≡ object_number command.now }
 {
     ObjectNumber(primitives::big_endian_at(command, 4))
 }
+
+#[tactic(auto, unfolding(rules::specs::Command::offset))]
 
 pub fn offset(command: &[u8]) -> Offset
     requires { 8 ≤ length command.now }
@@ -117,12 +77,16 @@ pub fn offset(command: &[u8]) -> Offset
     Offset(primitives::big_endian_at(command, 6) as usize)
 }
 
+#[tactic(auto, unfolding(rules::specs::Command::asked_length))]
+
 pub fn asked_length(command: &[u8]) -> Length
     requires { 10 ≤ length command.now }
     ensures { result.0 ≡ asked_length command.now }
 {
     Length(primitives::big_endian_at(command, 8) as usize)
 }
+
+#[tactic(auto, unfolding(rules::specs::Command::sent_data))]
 
 pub fn sent_data(command: &[u8]) -> &[u8]
     requires { 8 ≤ length command.now }
@@ -131,12 +95,16 @@ pub fn sent_data(command: &[u8]) -> &[u8]
     &command[8..]
 }
 
+#[tactic(auto, unfolding(rules::specs::Command::step_byte))]
+
 pub fn step_byte(command: &[u8]) -> u8
     requires { 9 ≤ length command.now }
     ensures { result ≡ step_byte command.now }
 {
     command[8]
 }
+
+#[tactic(auto, unfolding(rules::specs::Command::sent_metadata))]
 
 pub fn sent_metadata(command: &[u8]) -> &[u8]
     requires { 6 ≤ length command.now }
@@ -145,12 +113,16 @@ pub fn sent_metadata(command: &[u8]) -> &[u8]
     &command[6..]
 }
 
+#[tactic(auto, unfolding(rules::specs::Command::sent_body))]
+
 pub fn sent_body(command: &[u8]) -> &[u8]
     requires { 6 ≤ length command.now }
     ensures { result.now ≡ sent_body command.now }
 {
     &command[6..]
 }
+
+#[tactic(auto, unfolding(rules::specs::Command::sent_number))]
 
 pub fn sent_number(command: &[u8]) -> u32
     requires { 10 ≤ length command.now }
@@ -162,46 +134,28 @@ pub fn sent_number(command: &[u8]) -> u32
 // The steps 2 to 8, one function each.
 
 // Step 2.
+#[tactic(auto, unfolding(rules::specs::Refusals::unsound))]
 fn unsound(sound: bool, session: Session) -> bool
     ensures { result ≡ unsound sound session }
 {
-    if !sound {
-        return true;
-    }
-    if !expression::is_state(session.lcsg) {
-        return true;
-    }
-    !expression::is_state(session.lcsa)
+    !sound || !expression::is_state(session.lcsg) || !expression::is_state(session.lcsa)
 }
 
 // Step 3.
+#[tactic(auto, unfolding(rules::specs::Refusals::ill_sized, rules::specs::Command::in_length, rules::specs::Command::in_data))]
 fn ill_sized(command: &[u8]) -> bool
     ensures { result ≡ ill_sized command.now }
 {
     let n = command.len();
-    if n < 4 {
-        return true;
-    }
-    if 1557 < n {
-        return true;
-    }
-    primitives::big_endian_at(command, 2) as usize != n - 4
+    n < 4 || 1557 < n || primitives::big_endian_at(command, 2) as usize != n - 4
 }
 
 // Whether a line of the command table has this Cmd.
+#[tactic(auto, unfolding(rules::specs::Command::known_cmd, rules::specs::Command::command_table, rules::specs::Command::table_line))]
 fn known_cmd(n: u8) -> bool
     ensures { result ≡ known_cmd command_table n }
 {
-    if n == 0x01 {
-        return true;
-    }
-    if n == 0x02 {
-        return true;
-    }
-    if n == 0x70 {
-        return true;
-    }
-    n == 0x71
+    matches!(n, 0x01 | 0x02 | 0x70 | 0x71)
 }
 
 // Step 4.
@@ -213,31 +167,21 @@ fn unknown_cmd(command: &[u8]) -> bool
 }
 
 // Step 5.
+#[tactic(auto, unfolding(rules::specs::Refusals::unusable))]
 fn unusable(command: &[u8], session: Session) -> bool
     requires { 4 ≤ length command.now }
     ensures { result ≡ unusable command.now session }
 {
-    if session.lcsa == 0x0F {
-        return true;
-    }
-    if session.opened {
-        return false;
-    }
-    cmd(command) != 0x70
+    session.lcsa == 0x0F || !session.opened && cmd(command) != 0x70
 }
 
 // Step 6.
+#[tactic(auto, unfolding(rules::specs::Refusals::unknown_param, rules::specs::Command::is_unknown))]
 fn unknown_param(command: &[u8]) -> bool
     requires { 4 ≤ length command.now }
     ensures { result ≡ unknown_param command.now }
 {
-    let asked = row_of_command(command);
-    match asked {
-        Row::OnObject(_) => false,
-        Row::OpenApplication => false,
-        Row::CloseApplication => false,
-        Row::Unknown => true,
-    }
+    matches!(row_of_command(command), Row::Unknown)
 }
 
 // How many bytes InData may have: InLen is a number of two bytes.
@@ -282,13 +226,12 @@ fn row_sizes(asked: Row) -> Sizes
     }
 }
 
+#[tactic(auto, unfolding(rules::specs::Command::size_right))]
+
 fn size_right(sizes: Sizes, n: usize) -> bool
     ensures { result ≡ size_right sizes n }
 {
-    if n < sizes.least {
-        return false;
-    }
-    n <= sizes.most
+    sizes.least <= n && n <= sizes.most
 }
 
 // Step 7.
@@ -300,33 +243,14 @@ fn wrong_length(command: &[u8]) -> bool
     !size_right(sizes, primitives::big_endian_at(command, 2) as usize)
 }
 
-fn same(a: &[u8], b: &[u8]) -> bool
-    ensures { result ≡ same a.now b.now }
-{
-    if a.len() != b.len() {
-        return false;
-    }
-    let mut i = 0;
-    while i < a.len() {
-        if a[i] != b[i] {
-            return false;
-        }
-        i += 1;
-    }
-    true
-}
-
 // Step 8: only an open must send the identifier.
 fn wrong_content(command: &[u8]) -> bool
     requires { 4 ≤ length command.now }
     ensures { result ≡ wrong_content command.now }
 {
-    let asked = row_of_command(command);
-    match asked {
-        Row::OnObject(_) => false,
-        Row::OpenApplication => !same(b"\xD2\x76\x00\x00\x04GenAuthAppl", &command[4..]),
-        Row::CloseApplication => false,
-        Row::Unknown => false,
+    match row_of_command(command) {
+        Row::OpenApplication => &command[4..] != b"\xD2\x76\x00\x00\x04GenAuthAppl".as_slice(),
+        _ => false,
     }
 }
 
@@ -334,55 +258,25 @@ fn wrong_content(command: &[u8]) -> bool
 pub fn early(sound: bool, command: &[u8], session: Session) -> Verdict
     ensures { result ≡ early sound command.now session }
 {
-    if unsound(sound, session) {
-        return Verdict::Refused(Refusal::InternalError);
-    }
-    if ill_sized(command) {
-        return Verdict::Refused(Refusal::InvalidLength);
-    }
-    if unknown_cmd(command) {
-        return Verdict::Refused(Refusal::InvalidCommand);
-    }
-    if unusable(command, session) {
-        return Verdict::Refused(Refusal::NotAvailable);
-    }
-    if unknown_param(command) {
-        return Verdict::Refused(Refusal::InvalidParam);
-    }
-    if wrong_length(command) {
-        return Verdict::Refused(Refusal::InvalidLength);
-    }
-    if wrong_content(command) {
-        return Verdict::Refused(Refusal::InvalidData);
-    }
-    Verdict::Accepted
+    refuse_if(unsound(sound, session), Refusal::InternalError)?;
+    refuse_if(ill_sized(command), Refusal::InvalidLength)?;
+    refuse_if(unknown_cmd(command), Refusal::InvalidCommand)?;
+    refuse_if(unusable(command, session), Refusal::NotAvailable)?;
+    refuse_if(unknown_param(command), Refusal::InvalidParam)?;
+    refuse_if(wrong_length(command), Refusal::InvalidLength)?;
+    refuse_if(wrong_content(command), Refusal::InvalidData)
 }
 
-// A refusal's number, and the flush.
-
-pub fn code(refusal: Refusal) -> u8
-    ensures { result ≡ code refusal }
-{
-    match refusal {
-        Refusal::InvalidObject => 0x01,
-        Refusal::InvalidParam => 0x03,
-        Refusal::InvalidLength => 0x04,
-        Refusal::InvalidData => 0x05,
-        Refusal::InternalError => 0x06,
-        Refusal::AccessDenied => 0x07,
-        Refusal::BoundaryExceeded => 0x08,
-        Refusal::InvalidCommand => 0x0A,
-        Refusal::NotAvailable => 0x0C,
-        Refusal::InsufficientBuffer => 0x0D,
-    }
-}
+// The flush.
 
 // The last error becomes 0 where the command asks for it.
+#[tactic(auto, unfolding(rules::specs::Step::flushed))]
 pub fn flushed(command: &[u8], session: Session) -> Session
     ensures { result ≡ flushed command.now session }
 {
     if asks_flush(command) {
-        return session::with_error(0, session);
+        session::with_error(0, session)
+    } else {
+        session
     }
-    session
 }

@@ -1,13 +1,15 @@
 -- Tests in code against tests in the rules: small laws that `search` puts together.
 use Prim.Native.Nat.{ℕ, ◌≤◌}
 use lib.Dec.{leb}
+use native.Mathlib.Omega.{arith}
 use mathlib.Core.Logic.{◌↔◌}
 use mathlib.Core.Path.{◌≡◌, refl, sym, ap, ◌∙◌}
 use mathlib.Core.Bool.{Bool, true, false, not, false≢true, not-eq-not}
 use borrow.Author.Tests.{le-leb, leb-true}
 use Rattle.rules.specs.declared.Refusal.{Refusal}
-use Rattle.rules.specs.Verdict.{Verdict}
-use Rattle.std.specs.Prelude.{Err, if◌then◌else◌}
+use Rattle.rules.specs.Verdict.{Verdict, accepted}
+use Rattle.std.specs.Prelude.{Err, IsErrAnd, if◌then◌else◌}
+use Rattle.std.proofs.lemmas.Result.{err_from_is_err_and}
 use Rattle.rules.specs.Chain.{◌refused◌or◌}
 
 -- a step whose test was called: it holds, or it does not and the later steps decide
@@ -20,6 +22,25 @@ unfolding ◌refused◌or◌
 next_call k later e h f = rw (← e, h) f
 
 pub ruleset steps = (stop_call, next_call, refl)
+
+-- a step that was judged by itself, as t was called: it refuses, or it does not and the later steps decide
+pub stopped : (t q : Bool) (k x : Refusal) (later : Verdict) → q ≡ t → Err x ≡ (q refused k or accepted) → Err x ≡ (t refused k or later)
+unfolding ◌refused◌or◌
+stopped t true k x later c e = rw (← c) e
+stopped t false k x later c e = let z : ◌≡◌ {A = ℕ} 0 1 = cc in absurd (omega arith)
+
+pub passed_by : (q : Bool) (k : Refusal) → accepted ≡ (q refused k or accepted) → q ≡ false
+unfolding ◌refused◌or◌
+passed_by true k e = let z : ◌≡◌ {A = ℕ} 0 1 = cc in absurd (omega arith)
+passed_by false k e = refl
+
+pub gone_on : (t q : Bool) (k : Refusal) (v later : Verdict) → q ≡ t → accepted ≡ (q refused k or accepted) → v ≡ later → v ≡ (t refused k or later)
+unfolding ◌refused◌or◌
+gone_on t q k v later c e f = rw (← c, passed_by q k e) f
+
+-- what a `?` hands out is the refusal that it met
+pub handed_out : (r : Verdict) (x : Refusal) (v : Verdict) → IsErrAnd r (λ y. y ≡ x) → Err x ≡ v → r ≡ v
+handed_out r x v h e = let p = err_from_is_err_and r h in rw (p.1, p.2) e
 
 -- a step whose test is the opposite of what was called
 pub not_alike : {t q : Bool} → q ≡ t → not q ≡ not t

@@ -3,6 +3,8 @@
 
 ghost use Rattle.std.specs.Prelude.{◌≡◌};
 ghost use Rattle.rules.specs.Response.{code};
+ghost use Rattle.rules.specs.Verdict.{accepted};
+ghost use Rattle.rules.specs.Chain.{◌refused◌or◌};
 ghost use Rattle.rules.specs.Kinds.{record_kind};
 
 // What the element keeps between commands: application open or closed, LcsG, LcsA, last error.
@@ -43,6 +45,16 @@ pub enum Refusal {
 
 // What the steps 2 to 13 say of a command.
 pub type Verdict = Result<(), Refusal>;
+
+// One step of a verdict: refused where it applies.
+pub fn refuse_if(applies: bool, refusal: Refusal) -> Verdict
+    ensures { result ≡ (applies refused refusal or accepted) }
+{
+    if applies {
+        return Err(refusal);
+    }
+    Ok(())
+}
 
 impl From<Refusal> for u8 {
     ghost from_gives = { λ refusal number. number ≡ code refusal };

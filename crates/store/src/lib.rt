@@ -6,7 +6,7 @@ ghost use Rattle.rules.specs.Basic.{is_some};
 ghost use Rattle.rules.specs.Layout.{unpack, found};
 ghost use Rattle.store.specs.Way.{way, front, leads};
 
-use rules::{Found, ObjectNumber};
+use rules::ObjectNumber;
 
 // Limits of a store: its bytes, its records.
 const BYTES: usize = 16384;
@@ -21,9 +21,8 @@ pub fn check_store(store: &[u8]) -> bool
         return false;
     }
     let mut at: usize = 0;
-    let mut left: usize = RECORDS;
     let mut least: usize = 0;
-    while 0 < left {
+    for turn in 0..RECORDS {
         let rest = store.len() - at;
         if rest < record::SHORTEST {
             return false;
@@ -45,14 +44,13 @@ pub fn check_store(store: &[u8]) -> bool
         }
         least = n + 1;
         at = end;
-        left -= 1;
     }
     false
 }
 
 // Where the record of an object begins. Numbers rise, so that the search ends at the first that is not below the object's: only
 // record heads are read, and nothing behind that record.
-pub fn find_record(store: &[u8], number: ObjectNumber) -> Found
+pub fn find_record(store: &[u8], number: ObjectNumber) -> Option<usize>
     requires { leads number.0 store.now ≡ true }
     ensures { result ≡ found number.0 (way number.0 store.now) }
 {
@@ -60,22 +58,22 @@ pub fn find_record(store: &[u8], number: ObjectNumber) -> Found
     while at < store.len() {
         let next = record::data_end(store, at);
         let here = record::number_at(store, at).0;
-        if number.0 <= here {
-            if number.0 < here {
-                return Found::Nothing;
-            }
-            return Found::At(at);
+        if number.0 < here {
+            return None;
+        }
+        if number.0 == here {
+            return Some(at);
         }
         at = next;
     }
-    Found::Nothing
+    None
 }
 
 // What two searches find.
 #[derive(Clone, Copy)]
 pub struct Finds {
-    pub here: Found,
-    pub there: Found,
+    pub here: Option<usize>,
+    pub there: Option<usize>,
 }
 
 // Two searches for one object: in stores that are the same up to the end of their ways they find the same, whatever follows.

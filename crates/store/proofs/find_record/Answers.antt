@@ -1,4 +1,6 @@
 -- What is left to search is the way from `at` on.
+use Prim.Native.Nat.{◌<◌, ◌≤◌}
+use native.Mathlib.Omega.{arith}
 use Rattle.store.proofs.Search.{start, here_stored, found_here, passed, go_on, search_end}
 use Rattle.store.proofs.find_record.Goals as goal
 
@@ -11,14 +13,14 @@ data_end-next-requires c = search here_stored
 pub number_at-here-requires : goal.number_at-here-requires
 number_at-here-requires c = search here_stored
 
-pub returns-then-number-here-2 : goal.returns-then-number-here-2
-returns-then-number-here-2 c = search passed
-
 pub returns-then-number-here : goal.returns-then-number-here
-returns-then-number-here c = search found_here
+returns-then-number-here c = search passed
+
+pub returns-then-number-here-2 : goal.returns-then-number-here-2
+returns-then-number-here-2 c = let l : c.args.number.0 ≤ c.number_at-here.result.0 = omega arith in search found_here
 
 pub loop-at-preserved : goal.loop-at-preserved
-loop-at-preserved c = search go_on
+loop-at-preserved c = let l : c.number_at-here.result.0 < c.args.number.0 = omega arith in search go_on
 
 pub returns : goal.returns
 returns c = search search_end
