@@ -1,4 +1,5 @@
 pub mod Standing
 pub mod Slots
 pub mod Records
+pub mod ByKind
 pub mod Parts

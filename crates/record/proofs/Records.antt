@@ -1,7 +1,7 @@
 -- The check of one record: its tests say whether the bytes are the record of an allowed object. What the number of a kind says.
 use Prim.Native.Nat.{ℕ, ◌+◌, ◌*◌, ◌-◌, ◌≤◌, ◌<◌}
 use mathlib.Core.Path.{◌≡◌, refl, sym, ap, ◌∙◌}
-use mathlib.Core.Bool.{Bool, true, false, not, ◌&&◌, ◌||◌}
+use mathlib.Core.Bool.{Bool, true, false, not, ◌&&◌}
 use mathlib.Core.List.{List, [], ◌∷◌, ◌++◌, append-nil}
 use borrow.Author.Tests.{eq-eqb, ne_eqb, eqb-true, le-leb, leb-true, not-true, not-false}
 use native.Mathlib.Omega.{arith}
@@ -11,13 +11,11 @@ use lib.ListN.{length, get_or, take, drop, length-drop, take-append-drop}
 use lib.Seq.{take_at, drop-append_seam, drop-drop, length-take-le}
 use borrow.Author.Rules.{part_to_end}
 use Rattle.rules.specs.declared.Kind.{Kind}
-use Rattle.rules.specs.declared.Kind.TheVariants.{Counter, Queue}
-use Rattle.rules.specs.declared.Direction.TheVariants.{Up, Down}
 use Rattle.rules.specs.declared.Slot.{Slot}
 use Rattle.rules.specs.declared.Slot.TheVariants.{Change, Read, Execute}
 use Rattle.rules.specs.Basic.{all, zeros, little_endian_at}
 use Rattle.rules.specs.Expression.{Expression, expression_allowed, is_state}
-use Rattle.rules.specs.Object.{Object, used, kind_number, read_kind, is, is_counter, direction, data_allowed, in_session, object_allowed}
+use Rattle.rules.specs.Object.{Object, used, kind_number, read_kind, data_allowed, in_session, object_allowed}
 use Rattle.rules.specs.Layout.{slot_size, slots_at, head_size, slot_at, slot, record_bytes, read_slot, read_record}
 use Rattle.rules.specs.Layout.{read_record_with, record_bytes_with, slot_at_with}
 use Rattle.laws.proofs.Facts.{allowed, allowed_by}
@@ -211,31 +209,3 @@ read_as k n m b r e f = rw (← e) f
 pub read_none : (n m : ℕ) (b : List ℕ) → (n ≡ 1 → ⊥) → (n ≡ 2 → ⊥) → (n ≡ 3 → ⊥) → (n ≡ 4 → ⊥) → false ≡ kind_allowed n m b
 unfolding kind_allowed read_kind kind_number
 read_none n m b d u q w = rw (ne_eqb n 1 d, ne_eqb n 2 u, ne_eqb n 3 q, ne_eqb 4 n (λ e. w (sym e)))
-
--- `is_counter`, `is_up_counter`, `is_queue`, `direction`: by the number of the kind
-module _ (k : Kind) (n : ℕ) (e : n ≡ kind_number k) where
-  is_by : (l : Kind) → is l k ≡ eqb n (kind_number l)
-  unfolding is
-  is_by l =
-      same_test (eqb (kind_number l) (kind_number k)) (eqb n (kind_number l)) (λ h. eq-eqb n (kind_number l) (e ∙ sym (eqb-true (kind_number l) (kind_number k) h)))
-      (λ h. eq-eqb (kind_number l) (kind_number k) (sym (eqb-true n (kind_number l) h) ∙ e))
-
-  pub counter_by : (r : Bool) → r ≡ (eqb n 2 || eqb n 4) → r ≡ is_counter k
-  unfolding is_counter kind_number
-  counter_by r f = rw (is_by (Counter Up), is_by (Counter Down)) f
-
-  pub up_counter_by : (r : Bool) → r ≡ eqb n 2 → r ≡ is (Counter Up) k
-  unfolding kind_number
-  up_counter_by r f = rw (is_by (Counter Up)) f
-
-  pub queue_by : (r : Bool) → r ≡ eqb n 3 → r ≡ is Queue k
-  unfolding kind_number
-  queue_by r f = rw (is_by Queue) f
-
-  pub down_by : n ≡ 4 → Down ≡ direction k
-  unfolding direction kind_number
-  down_by h = rw (is_by (Counter Down), eq-eqb n 4 h)
-
-  pub up_by : (n ≡ 4 → ⊥) → Up ≡ direction k
-  unfolding direction kind_number
-  up_by h = rw (is_by (Counter Down), ne_eqb n 4 h)

@@ -6,14 +6,16 @@ ghost use Rattle.rules.specs.declared.Kind.TheVariants.{Data, Counter, Queue};
 ghost use Rattle.rules.specs.declared.Direction.TheVariants.{Up};
 ghost use Rattle.rules.specs.Basic.{little_endian_at, little_endian};
 ghost use Rattle.rules.specs.Expression.{expression_bytes};
-ghost use Rattle.rules.specs.Object.{used, kind_number, is, is_counter, direction, counter_size, in_session, expression_in};
+ghost use Rattle.rules.specs.Object.{Object, used, is, is_counter, direction, counter_size, in_session, object_allowed, expression_in};
 ghost use Rattle.rules.specs.Layout.{slot_size, head_size, slot_at, slot_of};
 ghost use Rattle.rules.specs.Counter.{exhausted};
 ghost use Rattle.primitives.specs.Bytes.{over, all_zero};
+ghost use Rattle.record.specs.Codes.{object_code};
 ghost use Rattle.record.specs.Places.{object_at, Stored};
 ghost use Rattle.record.specs.Records.{filled, is_slot, head_allowed, kind_allowed, slots_allowed, body_allowed, is_record, fixed};
 
-use rules::{Direction, Length, ObjectNumber, Offset, Slot};
+use rules::{Direction, Kind, Length, ObjectNumber, Offset, Slot};
+use std::marker::Model;
 
 // How far into a record its parts begin: the length is at 0.
 const KIND: usize = 2;
@@ -246,82 +248,6 @@ pub fn length_at(store: &[u8], at: usize) -> usize
     primitives::little_endian_at(store, at) as usize
 }
 
-// The number of the object whose record stands at a place.
-pub fn number_at(store: &[u8], at: usize) -> ObjectNumber
-    requires { Stored at store.now }
-    ensures { result.0 ≡ (object_at at store.now).number }
-{
-    ObjectNumber(primitives::little_endian_at(store, at + NUMBER))
-}
-
-// The number of its kind.
-fn kind_at(store: &[u8], at: usize) -> u16
-    requires { Stored at store.now }
-    ensures { result ≡ kind_number (object_at at store.now).kind }
-{
-    primitives::little_endian_at(store, at + KIND)
-}
-
-// Whether the object is a counter.
-pub fn is_counter(store: &[u8], at: usize) -> bool
-    requires { Stored at store.now }
-    ensures { result ≡ is_counter (object_at at store.now).kind }
-{
-    let kind = kind_at(store, at);
-    primitives::or(kind == UP_KIND, kind == DOWN_KIND)
-}
-
-// Whether the object of a found record is a counter that counts up.
-pub fn is_up_counter(store: &[u8], at: usize) -> bool
-    requires { Stored at store.now }
-    ensures { result ≡ is (Counter Up) (object_at at store.now).kind }
-{
-    kind_at(store, at) == UP_KIND
-}
-
-// Whether it is a queue.
-pub fn is_queue(store: &[u8], at: usize) -> bool
-    requires { Stored at store.now }
-    ensures { result ≡ is Queue (object_at at store.now).kind }
-{
-    kind_at(store, at) == QUEUE_KIND
-}
-
-// The way that a counter counts.
-pub fn direction(store: &[u8], at: usize) -> Direction
-    requires { Stored at store.now }
-    ensures { result ≡ direction (object_at at store.now).kind }
-{
-    if kind_at(store, at) == DOWN_KIND {
-        return Direction::Down;
-    }
-    Direction::Up
-}
-
-// The maximum of that object.
-pub fn maximum_at(store: &[u8], at: usize) -> Length
-    requires { Stored at store.now }
-    ensures { result.0 ≡ (object_at at store.now).maximum }
-{
-    Length(primitives::little_endian_at(store, at + MAXIMUM) as usize)
-}
-
-// How many bytes of its data are in use.
-pub fn used_at(store: &[u8], at: usize) -> Length
-    requires { Stored at store.now }
-    ensures { result.0 ≡ used (object_at at store.now) }
-{
-    Length(primitives::little_endian_at(store, at + USED) as usize)
-}
-
-// The LcsO of that object.
-pub fn lcso_at(store: &[u8], at: usize) -> u8
-    requires { Stored at store.now }
-    ensures { result ≡ (object_at at store.now).lcso }
-{
-    store[at + LCSO]
-}
-
 // How far into a record a slot begins.
 pub fn slot_at(slot: Slot) -> usize
     ensures { result ≡ slot_at slot }
@@ -344,31 +270,223 @@ fn counted(store: &[u8], at: usize) -> &[u8]
     &store[a..e]
 }
 
-// The expression in a slot: a part of the caller's slice.
+// A stored object, where its record stands in the store: seen as what it holds.
+#[derive(Drop)]
+pub struct StoredObject<'a> {
+    store: &'a [u8],
+    at: usize,
+}
+
+impl<'a> Model for StoredObject<'a> {
+    ghost Value = { Object };
+
+    ghost coded = { object_code };
+
+    ghost view = { λ r. object_at r.at r.store.now };
+
+    ghost invariant = { λ r. Stored r.at r.store.now };
+}
+
+impl<'a> StoredObject<'a> {
+    // The object whose record stands at a place.
+    pub fn at(store: &'a [u8], at: usize) -> Self
+        requires { Stored at store.now }
+        ensures { result ≡ object_at at store.now }
+    {
+        StoredObject { store, at }
+    }
+
+    // It is one that may stand in a store: told to a caller's proof, and no code.
+    #[tactic(auto, using(crate::proofs::Parts::told_allowed))]
+    pub fn allowed(&self)
+        ensures { object_allowed self.now ≡ true }
+    {
+        let _ = &self.at;
+    }
+
+    // Its number.
+    pub fn number(&self) -> ObjectNumber
+        ensures { result.0 ≡ self.now.number }
+    {
+        ObjectNumber(primitives::little_endian_at(self.store, self.at + NUMBER))
+    }
+
+    // Its kind: a record has the number of one.
+    pub fn kind(&self) -> Kind
+        ensures { result ≡ self.now.kind }
+    {
+        let number = primitives::little_endian_at(self.store, self.at + KIND);
+        let Ok(kind) = Kind::try_from(number) else {
+            unreachable!()
+        };
+        kind
+    }
+
+    // Whether it is a counter.
+    pub fn is_counter(&self) -> bool
+        ensures { result ≡ is_counter self.now.kind }
+    {
+        matches!(self.kind(), Kind::Counter(_))
+    }
+
+    // Whether it is a counter that counts up.
+    pub fn is_up_counter(&self) -> bool
+        ensures { result ≡ is (Counter Up) self.now.kind }
+    {
+        match self.kind() {
+            Kind::Counter(direction) => matches!(direction, Direction::Up),
+            _ => false,
+        }
+    }
+
+    // Whether it is a queue.
+    pub fn is_queue(&self) -> bool
+        ensures { result ≡ is Queue self.now.kind }
+    {
+        matches!(self.kind(), Kind::Queue)
+    }
+
+    // The way that a counter counts.
+    pub fn direction(&self) -> Direction
+        ensures { result ≡ direction self.now.kind }
+    {
+        match self.kind() {
+            Kind::Counter(direction) => direction,
+            _ => Direction::Up,
+        }
+    }
+
+    // The most bytes that its data may have.
+    pub fn maximum(&self) -> Length
+        ensures { result.0 ≡ self.now.maximum }
+    {
+        Length(primitives::little_endian_at(self.store, self.at + MAXIMUM) as usize)
+    }
+
+    // How many bytes of its data are in use.
+    pub fn used(&self) -> Length
+        ensures { result.0 ≡ used self.now }
+    {
+        Length(primitives::little_endian_at(self.store, self.at + USED) as usize)
+    }
+
+    // Its LcsO.
+    pub fn lcso(&self) -> u8
+        ensures { result ≡ self.now.lcso }
+    {
+        self.store[self.at + LCSO]
+    }
+
+    // The expression in a slot: a part of the caller's slice.
+    pub fn expression(&self, slot: Slot) -> &'a [u8]
+        ensures { result.now ≡ expression_bytes (expression_in slot self.now) }
+    {
+        counted(self.store, self.at + slot_at(slot))
+    }
+
+    // A part of the data in use: a part of the caller's slice.
+    pub fn data(&self, offset: Offset, length: Length) -> &'a [u8]
+        requires { offset.0 + length.0 ≤ used self.now }
+        ensures { result.now ≡ take length.0 (drop offset.0 self.now.content) }
+    {
+        let a = self.at + DATA + offset.0;
+        let e = a + length.0;
+        &self.store[a..e]
+    }
+
+    // The data in use.
+    pub fn content(&self) -> &'a [u8]
+        ensures { result.now ≡ self.now.content }
+    {
+        self.data(Offset(0), self.used())
+    }
+
+    // Whether a counter is at or past its threshold.
+    pub fn is_exhausted(&self) -> bool
+        requires { is_counter self.now.kind ≡ true }
+        ensures { result ≡ exhausted (direction self.now.kind) self.now.content }
+    {
+        let a = self.at + DATA;
+        counter::exhausted(&self.store[a..a + counter::SIZE], self.direction())
+    }
+}
+
+// The same of the record at a place, for a caller that has the place at hand.
+pub fn number_at(store: &[u8], at: usize) -> ObjectNumber
+    requires { Stored at store.now }
+    ensures { result.0 ≡ (object_at at store.now).number }
+{
+    StoredObject::at(store, at).number()
+}
+
+pub fn is_counter(store: &[u8], at: usize) -> bool
+    requires { Stored at store.now }
+    ensures { result ≡ is_counter (object_at at store.now).kind }
+{
+    StoredObject::at(store, at).is_counter()
+}
+
+pub fn is_up_counter(store: &[u8], at: usize) -> bool
+    requires { Stored at store.now }
+    ensures { result ≡ is (Counter Up) (object_at at store.now).kind }
+{
+    StoredObject::at(store, at).is_up_counter()
+}
+
+pub fn is_queue(store: &[u8], at: usize) -> bool
+    requires { Stored at store.now }
+    ensures { result ≡ is Queue (object_at at store.now).kind }
+{
+    StoredObject::at(store, at).is_queue()
+}
+
+pub fn direction(store: &[u8], at: usize) -> Direction
+    requires { Stored at store.now }
+    ensures { result ≡ direction (object_at at store.now).kind }
+{
+    StoredObject::at(store, at).direction()
+}
+
+pub fn maximum_at(store: &[u8], at: usize) -> Length
+    requires { Stored at store.now }
+    ensures { result.0 ≡ (object_at at store.now).maximum }
+{
+    StoredObject::at(store, at).maximum()
+}
+
+pub fn used_at(store: &[u8], at: usize) -> Length
+    requires { Stored at store.now }
+    ensures { result.0 ≡ used (object_at at store.now) }
+{
+    StoredObject::at(store, at).used()
+}
+
+pub fn lcso_at(store: &[u8], at: usize) -> u8
+    requires { Stored at store.now }
+    ensures { result ≡ (object_at at store.now).lcso }
+{
+    StoredObject::at(store, at).lcso()
+}
+
 pub fn slot_part(store: &[u8], at: usize, slot: Slot) -> &[u8]
     requires { Stored at store.now }
     ensures { result.now ≡ expression_bytes (expression_in slot (object_at at store.now)) }
 {
-    counted(store, at + slot_at(slot))
+    StoredObject::at(store, at).expression(slot)
 }
 
-// A part of the data in use: a part of the caller's slice.
 pub fn data_part(store: &[u8], at: usize, offset: Offset, length: Length) -> &[u8]
     requires { Stored at store.now × (offset.0 + length.0 ≤ used (object_at at store.now)) }
     ensures { result.now ≡ take length.0 (drop offset.0 (object_at at store.now).content) }
 {
-    let a = at + DATA + offset.0;
-    let e = a + length.0;
-    &store[a..e]
+    StoredObject::at(store, at).data(offset, length)
 }
 
-// Whether the counter of a found record is at or past its threshold: its bytes are a part of the store.
 pub fn exhausted(store: &[u8], at: usize) -> bool
     requires { Stored at store.now × (is_counter (object_at at store.now).kind ≡ true) }
     ensures { result ≡ exhausted (direction (object_at at store.now).kind) (object_at at store.now).content }
 {
-    let part = data_part(store, at, Offset(0), Length(counter::SIZE));
-    counter::exhausted(part, direction(store, at))
+    StoredObject::at(store, at).is_exhausted()
 }
 
 // Where the object's data ends, and its record with it.
