@@ -8,15 +8,15 @@ use Rattle.rules.specs.declared.Slot.{Slot}
 use Rattle.rules.specs.declared.Slot.TheVariants.{Change, Read, Execute}
 use Rattle.rules.specs.Basic.{big_endian}
 use Rattle.rules.specs.Expression.{expression_bytes}
-use Rattle.rules.specs.Object.{Object, used, expression_in}
+use Rattle.rules.specs.Object.{Object, used, expression_in, object_allowed}
 use Rattle.rules.specs.Layout.{slot_size}
 use Rattle.rules.specs.Metadata.{Field, field, fields_bytes, object_fields, led_by_20, metadata}
 use Rattle.rules.specs.Response.{put_in_front, done_response}
 use Rattle.laws.proofs.Expressions as expressions
 use Rattle.primitives.specs.Bytes.{over}
 use Rattle.primitives.proofs.Over.{over_over}
-use Rattle.record.specs.Places.{object_at, Stored}
-use Rattle.record.proofs.Standing.{standing, slot_here}
+use mathlib.Core.Bool.{true}
+use Rattle.laws.proofs.Facts.{allowed}
 use Rattle.response.specs.Begun.{begun}
 use Rattle.response.proofs.Begun.{begun_head, begun_more, begun_done}
 use Rattle.answer.specs.Answer.{state_and_sizes, slot_tag, slot_field, Sized}
@@ -36,10 +36,11 @@ bytes_are s o = simp append-nil
 bytes_length : (s : Slot) (o : Object) → length (bytes s o) ≡ 2 + length (value s o)
 bytes_length s o = omega (arith, ap length (bytes_are s o))
 
-pub value_small : (p : ℕ) (b : List ℕ) (s : Slot) (v : List ℕ) → Stored p b → v ≡ value s (object_at p b) → length v < slot_size
-value_small p b s v st e =
-    let t = standing p b st.stands in
-    rw e (omega (arith, expressions.expression_length _ (slot_here p b (object_at p b) _ t.allowed t.here s).allowed))
+pub value_small : (o : Object) (s : Slot) (v : List ℕ) → object_allowed o ≡ true → v ≡ value s o → length v < slot_size
+unfolding expression_in
+value_small o Change v ok e = rw e (omega (arith, expressions.expression_length o.change (allowed o ok).change))
+value_small o Read v ok e = rw e (omega (arith, expressions.expression_length o.read (allowed o ok).read))
+value_small o Execute v ok e = rw e (omega (arith, expressions.expression_length o.execute (allowed o ok).execute))
 
 -- `put_field`
 pub field_put : (place t : ℕ) (v xs q r : List ℕ) → place + 2 + length v ≤ length xs → q ≡ over place (t ∷ length v ∷ []) xs → r ≡ over (place + 2) v q →
@@ -88,10 +89,9 @@ unfolding metadata led_by_20
 metadata_length o = omega (arith, simp length-append at (ap length (fields_are o)), sizes_length o)
 
 -- `answer_size`
-pub answer_sized : (p : ℕ) (b : List ℕ) (c r x : ℕ) → Stored p b → c ≡ length (value Change (object_at p b)) → r ≡ length (value Read (object_at p b)) →
-    x ≡ length (value Execute (object_at p b)) → c < slot_size → r < slot_size → x < slot_size → Sized (object_at p b) (19 + c + r + x)
-answer_sized p b c r x st ec er ex lc lr lx =
-    let o = object_at p b in
+pub answer_sized : (o : Object) (c r x : ℕ) → c ≡ length (value Change o) → r ≡ length (value Read o) →
+    x ≡ length (value Execute o) → c < slot_size → r < slot_size → x < slot_size → Sized o (19 + c + r + x)
+answer_sized o c r x ec er ex lc lr lx =
     omega (arith, metadata_length o, bytes_length Change o, bytes_length Read o, bytes_length Execute o)
 
 -- `write_answer`

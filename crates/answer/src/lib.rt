@@ -8,9 +8,9 @@ ghost use Rattle.rules.specs.Object.{expression_in};
 ghost use Rattle.rules.specs.Layout.{slot_size};
 ghost use Rattle.rules.specs.Response.{done_response, put_in_front};
 ghost use Rattle.primitives.specs.Bytes.{over};
-ghost use Rattle.record.specs.Places.{object_at, Stored};
 ghost use Rattle.answer.specs.Answer.{front_bytes, slot_tag, slot_field, Sized};
 
+use record::StoredObject;
 use rules::{CHANGE_TAG, EXECUTE_TAG, Length, MAXIMUM_TAG, READ_TAG, STATE_TAG, Slot, USED_TAG};
 
 // Bytes of an answer before its expressions: 20 and L, then the fields C0, C4 and C5.
@@ -24,31 +24,27 @@ const ANSWER: usize = 4;
 
 const EXPRESSIONS: usize = ANSWER + FRONT;
 
-fn expression_length(store: &[u8], at: usize, slot: Slot) -> usize
-    requires { Stored at store.now }
-    ensures { (result ≡ length (expression_bytes (expression_in slot (object_at at store.now)))) × (result < slot_size) }
+fn expression_length(object: &StoredObject<'_>, slot: Slot) -> usize
+    ensures { (result ≡ length (expression_bytes (expression_in slot object.now))) × (result < slot_size) }
 {
-    let part = record::slot_part(store, at, slot);
-    part.len()
+    object.expression(slot).len()
 }
 
 // The bytes of the answer.
-fn answer_size(store: &[u8], at: usize) -> usize
-    requires { Stored at store.now }
-    ensures { Sized (object_at at store.now) result }
+fn answer_size(object: &StoredObject<'_>) -> usize
+    ensures { Sized object.now result }
 {
-    let change = expression_length(store, at, Slot::Change);
-    let read = expression_length(store, at, Slot::Read);
-    let execute = expression_length(store, at, Slot::Execute);
+    let change = expression_length(object, Slot::Change);
+    let read = expression_length(object, Slot::Read);
+    let execute = expression_length(object, Slot::Execute);
     BESIDES + change + read + execute
 }
 
 // How long the answer is.
-pub fn answer_length(store: &[u8], at: usize) -> Length
-    requires { Stored at store.now }
-    ensures { result.0 ≡ length (metadata (object_at at store.now)) }
+pub fn answer_length(object: &StoredObject<'_>) -> Length
+    ensures { result.0 ≡ length (metadata object.now) }
 {
-    Length(answer_size(store, at))
+    Length(answer_size(object))
 }
 
 fn tag_of(slot: Slot) -> u8
@@ -62,20 +58,18 @@ fn tag_of(slot: Slot) -> u8
 }
 
 // 20 and L, then the fields C0, C4 and C5.
-fn put_sizes(store: &[u8], at: usize, size: usize, room: &mut [u8])
-    requires { Stored at store.now × (2 ≤ size) × (size ≤ 257) × (17 ≤ length room.old) }
-    ensures { room.new ≡ over 4 (front_bytes size (object_at at store.now)) room.old }
+fn put_sizes(object: &StoredObject<'_>, size: usize, room: &mut [u8])
+    requires { (2 ≤ size) × (size ≤ 257) × (17 ≤ length room.old) }
+    ensures { room.new ≡ over 4 (front_bytes size object.now) room.old }
 {
-    let l = (size - 2) as u8;
-    let state = record::lcso_at(store, at);
-    let maximum = record::maximum_at(store, at).0;
-    let used = record::used_at(store, at).0;
+    let maximum = object.maximum().0;
+    let used = object.used().0;
     let bytes = [
         0x20,
-        l,
+        (size - 2) as u8,
         STATE_TAG,
         1,
-        state,
+        object.lcso(),
         MAXIMUM_TAG,
         2,
         (maximum / 256) as u8,
@@ -94,32 +88,30 @@ fn put_field(room: &mut [u8], place: usize, tag: u8, value: &[u8]) -> usize
     ensures { (room.new ≡ over place (tag ∷ length value.now ∷ value.now) room.old)
         × (result ≡ place + 2 + length value.now) }
 {
-    let head = [tag, value.len() as u8];
-    primitives::put(room, place, &head);
+    primitives::put(room, place, &[tag, value.len() as u8]);
     let start = place + 2;
     primitives::put(room, start, value);
     start + value.len()
 }
 
 // The field of a slot's expression.
-fn put_expression(store: &[u8], at: usize, slot: Slot, room: &mut [u8], place: usize) -> usize
-    requires { Stored at store.now × (place + length (fields_bytes (slot_field slot (object_at at store.now) ∷ [])) ≤ length room.old) }
-    ensures { (room.new ≡ over place (fields_bytes (slot_field slot (object_at at store.now) ∷ [])) room.old)
-        × (result ≡ place + length (fields_bytes (slot_field slot (object_at at store.now) ∷ []))) }
+fn put_expression(object: &StoredObject<'_>, slot: Slot, room: &mut [u8], place: usize) -> usize
+    requires { place + length (fields_bytes (slot_field slot object.now ∷ [])) ≤ length room.old }
+    ensures { (room.new ≡ over place (fields_bytes (slot_field slot object.now ∷ [])) room.old)
+        × (result ≡ place + length (fields_bytes (slot_field slot object.now ∷ []))) }
 {
-    let value = record::slot_part(store, at, slot);
-    put_field(room, place, tag_of(slot), value)
+    put_field(room, place, tag_of(slot), object.expression(slot))
 }
 
 // The answer, written into the room part by part.
-pub fn write_answer(store: &[u8], at: usize, room: &mut [u8])
-    requires { Stored at store.now × (4 + length (metadata (object_at at store.now)) ≤ length room.old) }
-    ensures { room.new ≡ put_in_front (done_response (metadata (object_at at store.now))) room.old }
+pub fn write_answer(object: &StoredObject<'_>, room: &mut [u8])
+    requires { 4 + length (metadata object.now) ≤ length room.old }
+    ensures { room.new ≡ put_in_front (done_response (metadata object.now)) room.old }
 {
-    let size = answer_size(store, at);
+    let size = answer_size(object);
     response::head(room, Length(size));
-    put_sizes(store, at, size, room);
-    let second = put_expression(store, at, Slot::Change, room, EXPRESSIONS);
-    let third = put_expression(store, at, Slot::Read, room, second);
-    put_expression(store, at, Slot::Execute, room, third);
+    put_sizes(object, size, room);
+    let second = put_expression(object, Slot::Change, room, EXPRESSIONS);
+    let third = put_expression(object, Slot::Read, room, second);
+    put_expression(object, Slot::Execute, room, third);
 }

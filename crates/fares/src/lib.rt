@@ -9,52 +9,31 @@ ghost use Rattle.rules.specs.Operation.{operation};
 ghost use Rattle.record.specs.Places.{object_at, Stored};
 ghost use Rattle.fares.specs.Queued.{MayAppend, MayAcknowledge, appended_at, acknowledged_at};
 
-use rules::{Length, Offset, Refusal, Verdict};
+use record::StoredObject;
+use rules::{Length, Offset, Refusal, Verdict, refuse_if};
 
 // The first number that is not given.
 const NO_NUMBER: u32 = 0xFFFFFFFF;
 
-// The data in use: a part of the caller's slice.
-fn content(store: &[u8], at: usize) -> &[u8]
-    requires { Stored at store.now }
-    ensures { result.now ≡ (object_at at store.now).content }
-{
-    record::data_part(store, at, Offset(0), record::used_at(store, at))
-}
-
 // Of an append: 03 where it is no queue, 08 where the fare does not fit behind the others, 0D where no number is left.
-pub fn judge_append(store: &[u8], at: usize, body: &[u8]) -> Verdict
-    requires { Stored at store.now }
-    ensures { (c : List ℕ) (see : Seen) → sent_body c ≡ body.now
-        → result ≡ (operation Append c (object_at at store.now) see).verdict }
+pub fn judge_append(object: &StoredObject<'_>, body: &[u8]) -> Verdict
+    ensures { (c : List ℕ) (see : Seen) → sent_body c ≡ body.now → result ≡ (operation Append c object.now see).verdict }
 {
     let size = Length(queue::BODY + body.len());
-    let used = record::used_at(store, at);
-    if !record::is_queue(store, at) {
-        return Verdict::Refused(Refusal::InvalidParam);
-    }
-    if !bounds::fits(Offset(used.0), size, record::maximum_at(store, at)) {
-        return Verdict::Refused(Refusal::BoundaryExceeded);
-    }
-    if queue::next_number(content(store, at)) == NO_NUMBER {
-        return Verdict::Refused(Refusal::InsufficientBuffer);
-    }
-    Verdict::Accepted
+    let fits = bounds::fits(Offset(object.used().0), size, object.maximum());
+    refuse_if(!object.is_queue(), Refusal::InvalidParam)?;
+    refuse_if(!fits, Refusal::BoundaryExceeded)?;
+    let number = queue::next_number(object.content());
+    refuse_if(number == NO_NUMBER, Refusal::InsufficientBuffer)
 }
 
 // Of an acknowledgement: 03 where it is no queue, 05 where no fare has the number.
-pub fn judge_acknowledge(store: &[u8], at: usize, number: u32) -> Verdict
-    requires { Stored at store.now }
-    ensures { (c : List ℕ) (see : Seen) → sent_number c ≡ number
-        → result ≡ (operation Acknowledge c (object_at at store.now) see).verdict }
+pub fn judge_acknowledge(object: &StoredObject<'_>, number: u32) -> Verdict
+    ensures { (c : List ℕ) (see : Seen) → sent_number c ≡ number → result ≡ (operation Acknowledge c object.now see).verdict }
 {
-    if !record::is_queue(store, at) {
-        return Verdict::Refused(Refusal::InvalidParam);
-    }
-    if !queue::is_present(content(store, at), number) {
-        return Verdict::Refused(Refusal::InvalidData);
-    }
-    Verdict::Accepted
+    refuse_if(!object.is_queue(), Refusal::InvalidParam)?;
+    let present = queue::is_present(object.content(), number);
+    refuse_if(!present, Refusal::InvalidData)
 }
 
 // Puts a body behind the fares, under the next number: the data part is lent on.

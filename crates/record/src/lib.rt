@@ -296,14 +296,6 @@ impl<'a> StoredObject<'a> {
         StoredObject { store, at }
     }
 
-    // It is one that may stand in a store: told to a caller's proof, and no code.
-    #[tactic(auto, using(crate::proofs::Parts::told_allowed))]
-    pub fn allowed(&self)
-        ensures { object_allowed self.now ≡ true }
-    {
-        let _ = &self.at;
-    }
-
     // Its number.
     pub fn number(&self) -> ObjectNumber
         ensures { result.0 ≡ self.now.number }
@@ -358,14 +350,16 @@ impl<'a> StoredObject<'a> {
 
     // The most bytes that its data may have.
     pub fn maximum(&self) -> Length
-        ensures { result.0 ≡ self.now.maximum }
+        ensures value { result.0 ≡ self.now.maximum }
+        ensures small { result.0 < 65536 }
     {
         Length(primitives::little_endian_at(self.store, self.at + MAXIMUM) as usize)
     }
 
     // How many bytes of its data are in use.
     pub fn used(&self) -> Length
-        ensures { result.0 ≡ used self.now }
+        ensures value { result.0 ≡ used self.now }
+        ensures small { result.0 < 65536 }
     {
         Length(primitives::little_endian_at(self.store, self.at + USED) as usize)
     }
@@ -379,7 +373,8 @@ impl<'a> StoredObject<'a> {
 
     // The expression in a slot: a part of the caller's slice.
     pub fn expression(&self, slot: Slot) -> &'a [u8]
-        ensures { result.now ≡ expression_bytes (expression_in slot self.now) }
+        ensures bytes { result.now ≡ expression_bytes (expression_in slot self.now) }
+        ensures allowed { object_allowed self.now ≡ true }
     {
         counted(self.store, self.at + slot_at(slot))
     }
@@ -387,7 +382,8 @@ impl<'a> StoredObject<'a> {
     // A part of the data in use: a part of the caller's slice.
     pub fn data(&self, offset: Offset, length: Length) -> &'a [u8]
         requires { offset.0 + length.0 ≤ used self.now }
-        ensures { result.now ≡ take length.0 (drop offset.0 self.now.content) }
+        ensures bytes { result.now ≡ take length.0 (drop offset.0 self.now.content) }
+        ensures allowed { object_allowed self.now ≡ true }
     {
         let a = self.at + DATA + offset.0;
         let e = a + length.0;
@@ -396,7 +392,8 @@ impl<'a> StoredObject<'a> {
 
     // The data in use.
     pub fn content(&self) -> &'a [u8]
-        ensures { result.now ≡ self.now.content }
+        ensures bytes { result.now ≡ self.now.content }
+        ensures allowed { object_allowed self.now ≡ true }
     {
         self.data(Offset(0), self.used())
     }

@@ -1,15 +1,19 @@
 -- Each way out is a step of the rule.
-use Rattle.fares.proofs.Judging.{content_sound, acknowledge_no_queue, acknowledge_absent, acknowledge_passes}
+use mathlib.Core.Bool.{not}
+use mathlib.Core.Path.{ap}
+use Rattle.rules.specs.Operation.{operation}
+use Rattle.laws.proofs.Calls.{stopped, passed_by, gone_on, handed_out}
+use Rattle.fares.proofs.Judging.{content_sound}
 use Rattle.fares.proofs.judge_acknowledge.Goals as goal
 
-pub returns-then-not-is_queue : goal.returns-then-not-is_queue
-returns-then-not-is_queue c = search acknowledge_no_queue
+pub returns-in_err-refuse_if : goal.returns-in_err-refuse_if
+unfolding operation
+returns-in_err-refuse_if c = λ d see e. handed_out _ _ _ c.from_residual.ensures.1 (stopped _ _ _ _ _ (ap not c.is_queue.ensures) c.in_err-refuse_if.ensures)
 
-pub is_present-requires : goal.is_present-requires
-is_present-requires c = search content_sound
-
-pub returns-then-not-is_present : goal.returns-then-not-is_present
-returns-then-not-is_present c = search acknowledge_absent
+pub is_present-present-requires : goal.is_present-present-requires
+is_present-present-requires c = content_sound _ _ _ c.content.ensures.allowed c.is_queue.ensures (passed_by _ _ c.in_ok-refuse_if.ensures) c.content.ensures.bytes
 
 pub returns : goal.returns
-returns c = search acknowledge_passes
+unfolding operation
+returns c = λ d see e.
+    gone_on _ _ _ _ _ (ap not c.is_queue.ensures) c.in_ok-refuse_if.ensures (rw (e, ← c.content.ensures.bytes, ← c.is_present-present.ensures) c.refuse_if-2.ensures)
