@@ -1,3 +1,4 @@
+pub mod Aims
 pub mod Targets
 pub mod Verdicts
 pub mod Judges

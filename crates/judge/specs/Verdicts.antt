@@ -13,7 +13,7 @@ use Rattle.rules.specs.Factory.{fresh_session}
 use Rattle.rules.specs.Session.{session_object}
 use Rattle.rules.specs.Chain.{◌refused◌or◌, ◌and_then◌}
 use Rattle.rules.specs.Access.{seen}
-use Rattle.rules.specs.Operation.{write_fits, operation}
+use Rattle.rules.specs.Operation.{operation}
 use Rattle.rules.specs.Refusals.{fitting}
 
 -- an action's own steps, as the rules have them, and step 13: none looks at what is seen
@@ -21,12 +21,6 @@ abbrev pub own_verdict : Action → List ℕ → Object → ℕ → Verdict
 own_verdict a c o room =
     let p = operation a c o (seen [] fresh_session) in
     p.verdict and_then fitting (length p.answer) room
-
--- a write of data to a stored object, which takes any value
-abbrev pub write_verdict : List ℕ → Object → ℕ → Verdict
-write_verdict c o room =
-    not (write_fits o (offset c) (length (sent_data c))) refused BoundaryExceeded or
-    fitting 0 room
 
 -- a write to an object of the session, access included
 abbrev pub state_verdict : List ℕ → Kind → ℕ → ℕ → Verdict

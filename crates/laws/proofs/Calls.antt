@@ -10,7 +10,7 @@ use Rattle.rules.specs.declared.Refusal.{Refusal}
 use Rattle.rules.specs.Verdict.{Verdict, accepted}
 use Rattle.std.specs.Prelude.{Err, IsErrAnd, if◌then◌else◌}
 use Rattle.std.proofs.lemmas.Result.{err_from_is_err_and}
-use Rattle.rules.specs.Chain.{◌refused◌or◌}
+use Rattle.rules.specs.Chain.{◌refused◌or◌, ◌and_then◌}
 
 -- a step whose test was called: it holds, or it does not and the later steps decide
 pub stop_call : {t q : Bool} (k : Refusal) (later : Verdict) → q ≡ t → q ≡ true → Err k ≡ (t refused k or later)
@@ -37,6 +37,15 @@ passed_by false k e = refl
 pub gone_on : (t q : Bool) (k : Refusal) (v later : Verdict) → q ≡ t → accepted ≡ (q refused k or accepted) → v ≡ later → v ≡ (t refused k or later)
 unfolding ◌refused◌or◌
 gone_on t q k v later c e f = rw (← c, passed_by q k e) f
+
+-- a verdict that was judged by itself, before later ones
+pub stopped_then : (x : Refusal) (v later : Verdict) → Err x ≡ v → Err x ≡ (v and_then later)
+unfolding ◌and_then◌
+stopped_then x v later e = rw (← e)
+
+pub gone_on_then : (v r later : Verdict) → accepted ≡ v → r ≡ later → r ≡ (v and_then later)
+unfolding ◌and_then◌
+gone_on_then v r later e f = rw (← e) f
 
 -- what a `?` hands out is the refusal that it met
 pub handed_out : (r : Verdict) (x : Refusal) (v : Verdict) → IsErrAnd r (λ y. y ≡ x) → Err x ≡ v → r ≡ v

@@ -305,7 +305,8 @@ impl<'a> StoredObject<'a> {
 
     // Its kind: a record has the number of one.
     pub fn kind(&self) -> Kind
-        ensures { result ≡ self.now.kind }
+        ensures value { result ≡ self.now.kind }
+        ensures allowed { object_allowed self.now ≡ true }
     {
         let number = primitives::little_endian_at(self.store, self.at + KIND);
         let Ok(kind) = Kind::try_from(number) else {

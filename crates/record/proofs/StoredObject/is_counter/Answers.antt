@@ -6,4 +6,4 @@ pub returns-in-Counter : goal.returns-in-Counter
 returns-in-Counter c = search counter_is
 
 pub returns-in_default : goal.returns-in_default
-returns-in_default c = counter_not _ _ c.kind.ensures c.in_default.not-Counter
+returns-in_default c = counter_not _ _ c.kind.ensures.value c.in_default.not-Counter

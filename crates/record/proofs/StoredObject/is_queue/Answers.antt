@@ -6,4 +6,4 @@ pub returns-in-Queue : goal.returns-in-Queue
 returns-in-Queue c = search queue_is
 
 pub returns-in_default : goal.returns-in_default
-returns-in_default c = queue_not _ _ c.kind.ensures c.in_default.not-Queue
+returns-in_default c = queue_not _ _ c.kind.ensures.value c.in_default.not-Queue

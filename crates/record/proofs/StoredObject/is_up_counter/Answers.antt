@@ -6,7 +6,7 @@ pub returns-in-Up : goal.returns-in-Up
 returns-in-Up c = search up_is
 
 pub returns-in_default-matches : goal.returns-in_default-matches
-returns-in_default-matches c = down_is _ _ c.kind.ensures _ c.in-Counter.is c.in_default-matches.not-Up
+returns-in_default-matches c = down_is _ _ c.kind.ensures.value _ c.in-Counter.is c.in_default-matches.not-Up
 
 pub returns-in_default : goal.returns-in_default
-returns-in_default c = no_up _ _ c.kind.ensures c.in_default.not-Counter
+returns-in_default c = no_up _ _ c.kind.ensures.value c.in_default.not-Counter
