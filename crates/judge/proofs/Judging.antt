@@ -10,7 +10,7 @@ use lib.Dec.{eqb, leb}
 use lib.ListN.{length, get_or}
 use lib.Seq.{get_or-drop}
 use Rattle.rules.specs.declared.Kind.{Kind}
-use Rattle.rules.specs.declared.Kind.TheVariants.{Counter, Queue, LifeCycle}
+use Rattle.rules.specs.declared.Kind.TheVariants.{Data, Counter, Queue, LifeCycle, Status}
 use Rattle.rules.specs.declared.Direction.{Direction}
 use Rattle.rules.specs.declared.Direction.TheVariants.{Up, Down}
 use Rattle.rules.specs.declared.ObjectNumber.{ObjectNumber}
@@ -22,7 +22,7 @@ use Rattle.rules.specs.declared.Action.{Action}
 use Rattle.rules.specs.declared.Action.TheVariants.{GetData, GetMetadata, Write, EraseAndWrite, SetMetadata, Count, Append, Acknowledge}
 use Rattle.rules.specs.Command.{offset, asked_length, sent_data, sent_metadata, sent_body, sent_number}
 use Rattle.rules.specs.Expression.{may_become, always, never}
-use Rattle.rules.specs.Object.{Object, used, kind_number, is, of_session, is_counter, counter_size}
+use Rattle.rules.specs.Object.{Object, used, kind_number, is, of_session, is_counter, counter_size, object_allowed}
 use Rattle.rules.specs.Metadata.{metadata_allowed}
 use Rattle.rules.specs.Factory.{fresh_session}
 use Rattle.rules.specs.Session.{session_change, session_object}
@@ -34,34 +34,42 @@ use Rattle.laws.proofs.Tests.{or_parts, by_test}
 use Rattle.laws.proofs.Fitting.{queue_stored}
 use Rattle.laws.proofs.Puts.{shown_length}
 use Rattle.laws.proofs.Views.{operation_alike}
-use Rattle.record.specs.Places.{object_at, Stored}
-use Rattle.laws.proofs.Calls.{not_alike}
-use Rattle.record.proofs.Standing.{stored_kind}
-use Rattle.access.specs.declared.Grant as declared
-use Rattle.access.specs.Told.{listed, told}
-use Rattle.judge.specs.declared.Target.{Target}
+use Rattle.record.specs.Places.{Stored}
+use Rattle.laws.proofs.Calls.{stopped, gone_on}
+use Rattle.laws.proofs.Facts.{allowed}
+use Rattle.std.specs.Prelude.{Option, Some, None}
+use Rattle.access.specs.Told.{told}
+use Rattle.judge.specs.Aims.{Aim}
 use Rattle.judge.specs.declared.Target.TheVariants.{InSession, InStore}
 use Rattle.judge.specs.Targets.{target_object, Placed}
-use Rattle.judge.specs.Verdicts.{own_verdict, write_verdict, state_verdict, session_refused, session_verdict}
+use Rattle.judge.specs.Verdicts.{own_verdict, state_verdict, session_refused, session_verdict}
 
 -- what the calls gave ---------------------------------------------------------------------------------------------------------
 
-module _ (c : List ℕ) (k : ℕ) (ek : k ≡ offset c) (q : Bool) (m : ℕ) where
-  pub sent_within : (d : List ℕ) → d ≡ sent_data c → q ≡ leb (k + length d) m → q ≡ leb (offset c + length (sent_data c)) m
-  sent_within d ed eq = cc
+pub sent_within : (c d : List ℕ) (k m : ℕ) (q : Bool) → k ≡ offset c → d ≡ sent_data c → q ≡ leb (k + length d) m → q ≡ leb (offset c + length (sent_data c)) m
+sent_within c d k m q ek ed eq = cc
+
+no_counter_kind : (w : Kind) → ((v : Direction) → w ≡ Counter v → ⊥) → is_counter w ≡ false
+unfolding is_counter is kind_number
+no_counter_kind Data n = refl
+no_counter_kind (Counter v) n = absurd (n v refl)
+no_counter_kind Queue n = refl
+no_counter_kind LifeCycle n = refl
+no_counter_kind Status n = refl
 
 -- a write to a counter, and to another object
-module _ (o : Object) (c d : List ℕ) (k : ℕ) (ek : k ≡ offset c) (ed : d ≡ sent_data c) (q r : Bool) (eq : q ≡ is_counter o.kind) where
-  pub fits_counter : q ≡ true → r ≡ (eqb k 0 && eqb (length d) counter_size) → r ≡ write_fits o (offset c) (length (sent_data c))
-  unfolding write_fits
-  fits_counter t f = rw (← eq, t, ← ek, ← ed) f
+module _ (o : Object) (c d : List ℕ) (k : ℕ) (ek : k ≡ offset c) (ed : d ≡ sent_data c) (r : Bool) (w : Kind) (ew : o.kind ≡ w) where
+  pub fits_counter : (v : Direction) → w ≡ Counter v → r ≡ (eqb k 0 && eqb (length d) counter_size) → r ≡ write_fits o (offset c) (length (sent_data c))
+  unfolding write_fits is_counter is kind_number
+  fits_counter Up t f = rw (ew, t, ← ek, ← ed) f
+  fits_counter Down t f = rw (ew, t, ← ek, ← ed) f
 
-  pub fits_other : (m : ℕ) → q ≡ false → m ≡ o.maximum → r ≡ leb (k + length d) m → r ≡ write_fits o (offset c) (length (sent_data c))
+  pub fits_other : (m : ℕ) → ((v : Direction) → w ≡ Counter v → ⊥) → o.maximum ≡ m → r ≡ leb (k + length d) m → r ≡ write_fits o (offset c) (length (sent_data c))
   unfolding write_fits
-  fits_other m t em f = rw (← eq, t, ← ek, ← ed, ← em) f
+  fits_other m t em f = rw (ew, no_counter_kind w t, ← ek, ← ed, em) f
 
 -- the front of an object
-pub front_told : (c : List ℕ) (k : ℕ) → k ≡ offset c → eqb k 0 ≡ eqb (offset c) 0
+pub front_told : (c : List ℕ) (k : ℕ) → k ≡ offset c → not (eqb k 0) ≡ not (eqb (offset c) 0)
 front_told c k e = cc
 
 pub counter_told : (o : Object) (q : Bool) → q ≡ is_counter o.kind → not q ≡ false → is_counter o.kind ≡ true
@@ -79,13 +87,14 @@ pub fitting_told : (n m room : ℕ) (r : Verdict) → n ≡ m → r ≡ fitting 
 fitting_told n m room r e f = rw (← e) f
 
 -- a match's arm
-pub kind_by : (w v : Kind) (r : Bool) → w ≡ v → r ≡ is LifeCycle v → r ≡ is LifeCycle w
-kind_by w v r e f = rw e f
-
-pub not_life_cycle : (d : Direction) → false ≡ is LifeCycle (Counter d)
+pub no_life_cycle : (w : Kind) → (w ≡ LifeCycle → ⊥) → false ≡ is LifeCycle w
 unfolding is kind_number
-not_life_cycle Up = refl
-not_life_cycle Down = refl
+no_life_cycle Data n = refl
+no_life_cycle (Counter Up) n = refl
+no_life_cycle (Counter Down) n = refl
+no_life_cycle Queue n = refl
+no_life_cycle LifeCycle n = absurd (n refl)
+no_life_cycle Status n = refl
 
 pub session_by : (w v : Action) (c : List ℕ) (k : Kind) (byte room : ℕ) (r : Verdict) → w ≡ v → r ≡ session_verdict v c k byte room →
     r ≡ session_verdict w c k byte room
@@ -103,16 +112,23 @@ unfolding ◌refused◌or◌ ◌and_then◌
 then_later true r v w = refl
 then_later false r v w = refl
 
--- a step of an action's verdict whose test was called
-pub stop_own : {t q : Bool} (k : Refusal) (v w : Verdict) → q ≡ t → q ≡ true → Err k ≡ ((t refused k or v) and_then w)
-unfolding ◌refused◌or◌ ◌and_then◌
-stop_own k v w e h = rw (← e, h)
+-- a step of an action's verdict that was judged by itself
+pub stopped_own : (t q : Bool) (k x : Refusal) (v w : Verdict) → q ≡ t → Err x ≡ (q refused k or accepted) → Err x ≡ ((t refused k or v) and_then w)
+stopped_own t q k x v w c e = rw then_later (stopped t q k x (v and_then w) c e)
 
-pub next_own : {t q : Bool} {r : Verdict} (k : Refusal) (v w : Verdict) → q ≡ t → q ≡ false → r ≡ (v and_then w) → r ≡ ((t refused k or v) and_then w)
-unfolding ◌refused◌or◌
-next_own k v w e h f = rw (← e, h) f
+pub gone_on_own : (t q : Bool) (k : Refusal) (r v w : Verdict) → q ≡ t → accepted ≡ (q refused k or accepted) → r ≡ (v and_then w) →
+    r ≡ ((t refused k or v) and_then w)
+gone_on_own t q k r v w c e f = rw then_later (gone_on t q k r (v and_then w) c e f)
 
-pub ruleset own_steps = (stop_own, next_own, not_alike)
+pub nothing_more : (r w : Verdict) → r ≡ w → r ≡ (accepted and_then w)
+unfolding ◌and_then◌
+nothing_more r w e = e
+
+-- a stored object takes any value
+pub any_value : (o : Object) (n : ℕ) (k : Refusal) (r v w : Verdict) → object_allowed o ≡ true → r ≡ (v and_then w) →
+    r ≡ ((not (value_allowed o n) refused k or v) and_then w)
+unfolding value_allowed of_session ◌refused◌or◌
+any_value o n k r v w ok f = rw ((or_parts (is LifeCycle o.kind) _ (storable o.kind o.maximum o.content (allowed o ok).content).not_of_session).0) f
 
 module _ (c : List ℕ) (o : Object) (see : Seen) (room : ℕ) where
   abbrev own : Action → Verdict
@@ -131,17 +147,16 @@ get_judged c o k n u room r ek en eu f =
     let many : length (shown c o.content) ≡ min u (k + n) - k = omega (arith, ek, en, eu, shown_length c o.content) in
     rw (then_later, many, ← ek, eu) f
 
--- an append and an acknowledgement, by what the calls gave
-module _ (c : List ℕ) (o : Object) (v r : Verdict) (room : ℕ) (f : r ≡ (v and_then fitting 0 room)) where
+-- an append and an acknowledgement: what a queue said of them, as the rules do
+module _ (c : List ℕ) (v : Verdict) (o : Object) where
   pub append_judged : (body : List ℕ) → body ≡ sent_body c →
-      ((d : List ℕ) (see : Seen) → sent_body d ≡ body → v ≡ (operation Append d o see).verdict) → r ≡ own_verdict Append c o room
-  unfolding operation
-  append_judged body e h = f ∙ ap (λ w. w and_then fitting 0 room) (h c (seen [] fresh_session) (sym e))
+      ((d : List ℕ) (see : Seen) → sent_body d ≡ body → v ≡ (operation Append d o see).verdict) → v ≡ (operation Append c o (seen [] fresh_session)).verdict
+  append_judged body e h = h c (seen [] fresh_session) (sym e)
 
   pub acknowledge_judged : (n : ℕ) → n ≡ sent_number c →
-      ((d : List ℕ) (see : Seen) → sent_number d ≡ n → v ≡ (operation Acknowledge d o see).verdict) → r ≡ own_verdict Acknowledge c o room
-  unfolding operation
-  acknowledge_judged n e h = f ∙ ap (λ w. w and_then fitting 0 room) (h c (seen [] fresh_session) (sym e))
+      ((d : List ℕ) (see : Seen) → sent_number d ≡ n → v ≡ (operation Acknowledge d o see).verdict) →
+      v ≡ (operation Acknowledge c o (seen [] fresh_session)).verdict
+  acknowledge_judged n e h = h c (seen [] fresh_session) (sym e)
 
 -- at an object of the session -----------------------------------------------------------------------------------------------
 
@@ -216,58 +231,54 @@ own_alike a c o see room =
     let p = operation_alike a c o (seen [] fresh_session) see in
     λ i. p.verdict i and_then fitting (length (p.answer i)) room
 
-module _ (p : ℕ) (b c : List ℕ) (room : ℕ) (r : Verdict) where
-  pub own_by : (a v : Action) → a ≡ v → r ≡ own_verdict v c (object_at p b) room → r ≡ own_verdict a c (object_at p b) room
-  own_by a v e f = rw e f
-
-  pub stored_get : (u : ℕ) → u ≡ used (object_at p b) → ((o : Object) → used o ≡ u → r ≡ own_verdict GetData c o room) →
-      r ≡ own_verdict GetData c (object_at p b) room
-  stored_get u eu f = f (object_at p b) (sym eu)
-
-  -- of either action that writes
-  pub stored_write : Stored p b → r ≡ write_verdict c (object_at p b) room →
-      r ≡ ((not (write_fits (object_at p b) (offset c) (length (sent_data c))) refused BoundaryExceeded or
-      not (value_allowed (object_at p b) (get_or (sent_data c) 0 0)) refused InvalidData or accepted) and_then fitting 0 room)
-  unfolding ◌refused◌or◌ ◌and_then◌
-  stored_write t f = rw (then_later, any_value) f
-    where
-      any_value : value_allowed (object_at p b) (get_or (sent_data c) 0 0) ≡ true
-      any_value = unfold value_allowed of_session in rw (or_parts (is LifeCycle (object_at p b).kind) _ (stored_kind p b t)).0
+pub own_by : (a v : Action) (c : List ℕ) (o : Object) (room : ℕ) (r : Verdict) → a ≡ v → r ≡ own_verdict v c o room → r ≡ own_verdict a c o room
+own_by a v c o room r e f = rw e f
 
 -- `judge_stored`; g is what `granted` answered
-module _ (g : declared.Grant) (a : Action) (c : List ℕ) (o : Object) (see : Seen) (e : told g ≡ access a o see) where
-  pub stored_judged : (room : ℕ) (r : Verdict) → r ≡ (not g.granted refused AccessDenied or own_verdict a c o room) →
-      r ≡ late (ruling_on a c (some o) see) room
-  unfolding told
-  stored_judged room r f =
-      f ∙ (λ i. not (e i).granted refused AccessDenied or own_alike a c o see room i) ∙ sym (judged c o see room a)
+module _ (g : Option (List ℕ)) (a : Action) (c : List ℕ) (o : Object) (see : Seen) (e : told g ≡ access a o see) where
+  pub stored_judged : (ns : List ℕ) (room : ℕ) (r : Verdict) → g ≡ Some ns → r ≡ own_verdict a c o room → r ≡ late (ruling_on a c (some o) see) room
+  unfolding ◌refused◌or◌
+  stored_judged ns room r h f =
+      let w : granted a o see ≡ true = ap (λ (x : Grant). x.granted) (sym e) ∙ ap (λ x. (told x).granted) h in
+      f ∙ own_alike a c o see room ∙ sym (judged c o see room a ∙ rw w)
 
-  pub stored_counters : listed g.counters ≡ (ruling_on a c (some o) see).counters
-  unfolding told ruling_on
-  stored_counters = ap (λ (x : Grant). x.counters) e
+  pub stored_counters : (ns : List ℕ) → g ≡ Some ns → ns ≡ (ruling_on a c (some o) see).counters
+  unfolding ruling_on
+  stored_counters ns h = ap (λ x. (told x).counters) (sym h) ∙ ap (λ (x : Grant). x.counters) e
+
+  pub denied : (room : ℕ) (r : Verdict) → g ≡ None → r ≡ Err AccessDenied → r ≡ late (ruling_on a c (some o) see) room
+  unfolding ◌refused◌or◌
+  denied room r h f =
+      let w : granted a o see ≡ false = ap (λ (x : Grant). x.granted) (sym e) ∙ ap (λ x. (told x).granted) h in
+      f ∙ sym (judged c o see room a ∙ rw w)
+
+  pub denied_counters : (ns : List ℕ) → g ≡ None → ns ≡ [] → ns ≡ (ruling_on a c (some o) see).counters
+  unfolding ruling_on
+  denied_counters ns h z = z ∙ ap (λ x. (told x).counters) (sym h) ∙ ap (λ (x : Grant). x.counters) e
 
 -- at the target ------------------------------------------------------------------------------------------------------------------
 
-pub at_target : (a : Action) (c b : List ℕ) (see : Seen) (room : ℕ) (aim v : Target) (r : Verdict) → aim ≡ v →
-    r ≡ late (ruling_on a c (target_object v b) see) room → r ≡ late (ruling_on a c (target_object aim b) see) room
-at_target a c b see room aim v r e f = rw e f
+module _ (a : Action) (c b : List ℕ) (see : Seen) (aim : Aim) where
+  pub at_target : (v : Aim) (room : ℕ) (r : Verdict) → aim ≡ v →
+      r ≡ late (ruling_on a c (target_object v b) see) room → r ≡ late (ruling_on a c (target_object aim b) see) room
+  at_target v room r e f = rw e f
 
-pub counters_at : (a : Action) (c b : List ℕ) (see : Seen) (aim v : Target) (ns : List ℕ) → aim ≡ v →
-    ns ≡ (ruling_on a c (target_object v b) see).counters → ns ≡ (ruling_on a c (target_object aim b) see).counters
-counters_at a c b see aim v ns e f = rw e f
+  pub counters_at : (v : Aim) (ns : List ℕ) → aim ≡ v →
+      ns ≡ (ruling_on a c (target_object v b) see).counters → ns ≡ (ruling_on a c (target_object aim b) see).counters
+  counters_at v ns e f = rw e f
 
-module _ (a : Action) (c b : List ℕ) (see : Seen) (aim : Target) (n : ObjectNumber) (k : Kind) (byte : ℕ) (t : Placed aim c b) (e : aim ≡ InSession n k byte) where
-  pub at_session : (room : ℕ) (v r : Verdict) → v ≡ session_verdict a c k byte room → r ≡ v →
-      r ≡ late (ruling_on a c (some (session_object n.0 k byte)) see) room
-  at_session room v r f g = g ∙ f ∙ session_judged c n.0 byte k see room (rw e at t) a
+  module _ (n : ObjectNumber) (k : Kind) (byte : ℕ) (t : Placed aim c b) (e : aim ≡ Some (InSession n k byte)) where
+    pub at_session : (room : ℕ) (v r : Verdict) → v ≡ session_verdict a c k byte room → r ≡ v →
+        r ≡ late (ruling_on a c (some (session_object n.0 k byte)) see) room
+    at_session room v r f g = g ∙ f ∙ session_judged c n.0 byte k see room (rw e at t) a
 
-  pub session_counters : (ns : List ℕ) → ns ≡ [] → ns ≡ (ruling_on a c (some (session_object n.0 k byte)) see).counters
-  unfolding ruling_on
-  session_counters ns z = z ∙ sym (session_uses_none a n.0 byte k see (rw e at t))
+    pub session_counters : (ns : List ℕ) → ns ≡ [] → ns ≡ (ruling_on a c (some (session_object n.0 k byte)) see).counters
+    unfolding ruling_on
+    session_counters ns z = z ∙ sym (session_uses_none a n.0 byte k see (rw e at t))
 
 pub nothing_named : (a : Action) (c : List ℕ) (see : Seen) (room : ℕ) (r : Verdict) → r ≡ Err InvalidObject → r ≡ late (ruling_on a c none see) room
 unfolding late ruling_on ◌and_then◌
 nothing_named a c see room r e = e
 
-pub record_stands : (c b : List ℕ) (aim : Target) → Placed aim c b → (p : ℕ) → aim ≡ InStore p → Stored p b
+pub record_stands : (c b : List ℕ) (aim : Aim) → Placed aim c b → (p : ℕ) → aim ≡ Some (InStore p) → Stored p b
 record_stands c b aim t p e = (rw e at t).0

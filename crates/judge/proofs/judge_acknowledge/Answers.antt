@@ -1,6 +1,13 @@
--- `judge::judge_acknowledge` meets its contract.
+-- The queue's verdict, then the room.
+use Rattle.rules.specs.Operation.{operation}
+use Rattle.laws.proofs.Calls.{stopped_then, gone_on_then, handed_out}
 use Rattle.judge.proofs.Judging.{acknowledge_judged}
 use Rattle.judge.proofs.judge_acknowledge.Goals as goal
 
+pub returns-in_err-judge_acknowledge : goal.returns-in_err-judge_acknowledge
+unfolding operation
+returns-in_err-judge_acknowledge c = handed_out _ _ _ c.from_residual.ensures.1 ?
+
 pub returns : goal.returns
-returns c = search acknowledge_judged
+unfolding operation
+returns c = ?

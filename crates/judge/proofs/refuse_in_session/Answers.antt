@@ -1,9 +1,9 @@
--- `judge::refuse_in_session` meets its contract.
-use Rattle.laws.proofs.Calls.{steps}
+-- A life cycle, or another object.
+use Rattle.laws.proofs.Calls.{stopped, gone_on, handed_out}
 use Rattle.judge.proofs.refuse_in_session.Goals as goal
 
-pub returns-then-is_life_cycle : goal.returns-then-is_life_cycle
-returns-then-is_life_cycle c = search steps
+pub returns-in_err-refuse_if : goal.returns-in_err-refuse_if
+returns-in_err-refuse_if c = handed_out _ _ _ c.from_residual.ensures.1 (stopped _ _ _ _ _ c.is_life_cycle.ensures c.in_err-refuse_if.ensures)
 
 pub returns : goal.returns
-returns c = search steps
+returns c = gone_on _ _ _ _ _ c.is_life_cycle.ensures c.in_ok-refuse_if.ensures (search)
