@@ -1,35 +1,33 @@
--- Expressions judged byte by byte, as the loops do, what that says of the rules' grants, and those of slots and actions.
-use Prim.Native.Nat.{ℕ, ◌+◌, ◌-◌, ◌%◌, ◌≤◌, ◌<◌}
+-- Expressions judged chunk by chunk, as the loops do, what that says of the rules' grants, and those of the slots.
+use Prim.Native.Nat.{ℕ, ◌+◌, ◌-◌, ◌*◌, ◌%◌, ◌≤◌, ◌<◌, min}
 use mathlib.Core.Path.{◌≡◌, refl, sym, ap, ◌∙◌}
-use mathlib.Core.Bool.{Bool, true, false, ◌&&◌, ◌||◌}
+use mathlib.Core.Bool.{Bool, true, false, true≢false, ◌&&◌}
+use mathlib.Core.Logic.{◌⊎◌}
 use mathlib.Core.List.{List, [], ◌∷◌, ◌++◌, append-nil, append_assoc}
 use native.Mathlib.Omega.{arith}
-use borrow.Author.Tests.{eq-eqb, ne_eqb}
 use lib.Dec.{eqb}
-use lib.ListN.{length, get_or, drop}
-use Rattle.rules.specs.declared.Session.{Session}
-use Rattle.rules.specs.Found.{Found}
-use Rattle.std.specs.Prelude.{Some, None, if◌then◌else◌}
+use lib.ListN.{length, get_or, drop, length-append, length-drop, drop_of_length-le}
+use lib.Seq.{drop_at, drop-drop}
+use Rattle.std.specs.Prelude.{if◌then◌else◌}
+use Rattle.std.proofs.Common.{inl, inr, lt-ltb, le-ltb}
+use Rattle.std.proofs.lemmas.Bool.{cases_lt}
+use Rattle.std.proofs.lemmas.List.{nil_from_length}
 use Rattle.rules.specs.declared.Action.{Action}
-use Rattle.rules.specs.declared.Action.TheVariants.{Write, SetMetadata}
+use Rattle.rules.specs.declared.Action.TheVariants.{GetData, GetMetadata, Write, EraseAndWrite, SetMetadata, Count, Append, Acknowledge}
 use Rattle.rules.specs.declared.Kind.TheVariants.{Queue}
 use Rattle.rules.specs.declared.Slot.{Slot}
-use Rattle.rules.specs.declared.Slot.TheVariants.{Change}
+use Rattle.rules.specs.declared.Slot.TheVariants.{Change, Read}
 use Rattle.rules.specs.Basic.{is_some}
-use Rattle.rules.specs.Expression.{Condition, Group, just, ◌and◌, Groups, only, ◌or◌, Expression, always, never, when, slot_size, condition_bytes, group_bytes, groups_bytes, expression_bytes, read_expression, expression}
-use Rattle.rules.specs.Object.{expression_in, is, of_session}
-use Rattle.rules.specs.Access.{Seen, seen_in, condition_holds, group_holds, condition_counters, group_counters, Grant, grant_if, groups_grant, grant, asked, access}
+use Rattle.rules.specs.Expression.{Condition, names_counter, counter_number, Group, just, ◌and◌, Groups, only, ◌or◌, Expression, always, never, when, slot_size, condition_bytes, group_bytes, groups_bytes, expression_bytes, read_expression, expression}
+use Rattle.rules.specs.Object.{Object, is, of_session, object_allowed, expression_in}
+use Rattle.rules.specs.Access.{Seen, condition_holds, group_holds, condition_counters, group_counters, Grant, grant_if, groups_grant, grant, asked, access}
+use Rattle.laws.proofs.Facts.{storable, allowed}
 use Rattle.laws.proofs.Tests.{and_assoc}
 use Rattle.laws.proofs.Expressions.{groups_length, groups_two, expression_length, read_bytes}
 use Rattle.expression.specs.Conditions.{condition_at}
 use Rattle.expression.proofs.Forms.{read_allowed, groups_of}
-use Rattle.expression.proofs.Conditions.{four, three}
-use Rattle.record.specs.Places.{object_at, Stored}
-use Rattle.record.proofs.Parts.{slot_expression}
-use Rattle.record.proofs.Standing.{stored_kind}
-use Rattle.access.specs.declared.Counters.{Counters}
-use Rattle.access.specs.Told.{listed, told}
-use Rattle.access.specs.Groups.{first_group, IsGroup, Decides}
+use Rattle.access.specs.Groups.{ends_group, first_group, IsGroup}
+use Rattle.access.proofs.Chunks.{last_chunk, joined_chunk, total, rest_whole}
 
 -- `deciding_group`: what the rest grants -----------------------------------------------------------------------------------
 
@@ -37,49 +35,85 @@ use Rattle.access.specs.Groups.{first_group, IsGroup, Decides}
 unfoldable pub rest_grant : Seen → ℕ → Bool → List ℕ → List ℕ → Grant
 rest_grant v l before mine (a ∷ b ∷ c ∷ j ∷ rest) =
     let held = before && condition_holds v l (record { subject = a; relation = b; reference = c }) in
-    if eqb j 0xFE && held then grant_if true mine else
-    rest_grant v l (eqb j 0xFE || held) (if eqb j 0xFE then first_group rest else mine) rest
+    let later = rest_grant v l true (first_group rest) rest in
+    let same = rest_grant v l held mine rest in
+    if eqb j 0xFE then (if held then grant_if true mine else later) else same
 rest_grant v l before mine (a ∷ b ∷ c ∷ []) =
     grant_if (before && condition_holds v l (record { subject = a; relation = b; reference = c })) mine
 rest_grant v l before mine (a ∷ b ∷ []) = grant_if false []
 rest_grant v l before mine (a ∷ []) = grant_if false []
 rest_grant v l before mine [] = grant_if false []
 
--- the loop; p: where the present group begins; held and fin are what the calls gave
-module _ (v : Seen) (l : ℕ) (w : Grant) (s : List ℕ) (t : Bool) (p i : ℕ) (inv : w ≡ rest_grant v l t (first_group (drop p s)) (drop i s))
-    (held : Bool) (e : held ≡ (t && condition_holds v l (condition_at i s))) where
-  rest_open : i + 3 < length s →
-      w ≡ (if eqb (get_or s (i + 3) 0) 0xFE && held then grant_if true (first_group (drop p s)) else
-      rest_grant v l (eqb (get_or s (i + 3) 0) 0xFE || held) (if eqb (get_or s (i + 3) 0) 0xFE then first_group (drop (i + 4) s) else first_group (drop p s)) (drop (i + 4) s))
-  unfolding rest_grant condition_at
-  rest_open h = rw e (inv ∙ ap (rest_grant v l t (first_group (drop p s))) (four s i h))
+-- with the chunk x of the condition taken, and r left, what the rest grants; held: the first group holds with x
+abbrev pub chosen : Seen → ℕ → List ℕ → List ℕ → List ℕ → Bool → Grant
+chosen v l mine x r held =
+    if ends_group x then (if held then grant_if true mine else rest_grant v l true (first_group r) r) else rest_grant v l held mine r
 
-  rest_last : i + 3 ≤ length s → length s ≤ i + 3 → w ≡ grant_if held (first_group (drop p s))
-  unfolding rest_grant condition_at
-  rest_last h k = rw e (inv ∙ ap (rest_grant v l t (first_group (drop p s))) (three s i (omega arith)))
+-- the rest s begins with the chunk x, before r
+module _ (s x r : List ℕ) (parts : s ≡ x ++ r) (size : length x ≡ min 4 (length s)) (whole : length s % 4 ≡ 3) where
+  none_left : length x < 4 → r ≡ []
+  none_left h = nil_from_length r (omega (arith, total s x r parts size whole, size, whole))
 
-  pub last_true : i + 3 ≤ length s → length s ≤ i + 3 → held ≡ true → w ≡ grant_if true (first_group (drop p s))
-  last_true h k q = rw q at (rest_last h k)
+  -- what is left after four bytes
+  pub rest_is : r ≡ drop 4 s
+  rest_is = elim (cases_lt (length x) 4) [
+    | inl h ↦ none_left h ∙ sym (drop_of_length-le s {i = 4} (omega (arith, size, h)))
+    | inr h ↦ sym (ap (drop 4) parts ∙ drop_at x r 4 (omega (arith, size, h)))
+  ]
 
-  pub last_false : i + 3 ≤ length s → length s ≤ i + 3 → held ≡ false → w ≡ grant_if false []
-  last_false h k q = rw q at (rest_last h k)
+  short_ends : length x < 4 → ends_group x ≡ true
+  short_ends h = rw (lt-ltb (length x) 4 h)
 
-  module _ (fin : Bool) (f : fin ≡ (eqb (get_or s (i + 3) 0) 0xFE && held)) where
-    pub rest_true : i + 3 < length s → fin ≡ true → w ≡ grant_if true (first_group (drop p s))
-    rest_true h q = rw (← f, q) at (rest_open h)
+  long_ends : 4 ≤ length x → ends_group x ≡ eqb (get_or x 3 0) 0xFE
+  long_ends h = rw (le-ltb (length x) 4 h)
 
-    pub rest_on : (t' : Bool) (p' : ℕ) → i + 3 < length s → fin ≡ false → t' ≡ (eqb (get_or s (i + 3) 0) 0xFE || held) →
-        p' ≡ (if eqb (get_or s (i + 3) 0) 0xFE then i + 4 else p) → w ≡ rest_grant v l t' (first_group (drop p' s)) (drop (i + 4) s)
-    rest_on t' p' h q r z = rw (← f, q, ← r) at (rest_open h) ∙ ap (λ ns. rest_grant v l t' ns (drop (i + 4) s)) (by (eqb (get_or s (i + 3) 0) 0xFE) z)
+  module _ (v : Seen) (l : ℕ) (w : Grant) (t : Bool) (mine : List ℕ) (inv : w ≡ rest_grant v l t mine s) where
+    opened : w ≡ chosen v l mine x r (t && condition_holds v l (condition_at 0 x))
+    unfolding rest_grant condition_at
+    opened = elim (cases_lt (length x) 4) [
+      | inl h ↦
+          inv ∙ ap (rest_grant v l t mine) (last_chunk s x r parts size whole h)
+          ∙ rw (short_ends h, none_left h)
+          (last (t && condition_holds v l (record { subject = get_or x 0 0; relation = get_or x 1 0; reference = get_or x 2 0 })))
+      | inr h ↦ inv ∙ ap (rest_grant v l t mine) (joined_chunk s x r parts size whole h) ∙ rw (long_ends h) refl
+    ]
       where
-        by : (x : Bool) → p' ≡ (if x then i + 4 else p) → (if x then first_group (drop (i + 4) s) else first_group (drop p s)) ≡ first_group (drop p' s)
-        by true z = rw z
-        by false z = rw z
+        last : (h : Bool) → grant_if h mine ≡ (if h then grant_if true mine else grant_if false [])
+        last true = refl
+        last false = refl
 
--- the place of the group stays one of a group
-pub start_on : (s : List ℕ) (t : Bool) (p i p' : ℕ) → IsGroup p s → i + 3 < length s → (length s + 1 - i) % 4 ≡ 0 → p' ≡ (if t then i + 4 else p) → IsGroup p' s
-start_on s true p i p' g h k e = (omega arith, omega arith, g.2)
-start_on s false p i p' g h k e = rw e g
+    -- held: what `condition_holds` said, where the conditions before it held
+    module _ (held : Bool) (e : held ≡ (t && condition_holds v l (condition_at 0 x))) where
+      taken : w ≡ chosen v l mine x r held
+      taken = rw e opened
+
+      pub group_decides : ends_group x ≡ true → held ≡ true → w ≡ grant_if true mine
+      group_decides f h = rw (f, h) at taken
+
+      pub next_group : ends_group x ≡ true → held ≡ false → w ≡ rest_grant v l true (first_group r) r
+      next_group f h = rw (f, h) at taken
+
+      pub same_group : ends_group x ≡ false → w ≡ rest_grant v l held mine r
+      same_group f = rw f at taken
+
+-- s begins after n chunks of the part
+module _ (part s x r : List ℕ) (parts : s ≡ x ++ r) (size : length x ≡ min 4 (length s)) (whole : length s % 4 ≡ 3)
+    (n k : ℕ) (e : k ≡ n) (there : s ≡ drop (4 * n) part) where
+  pub rest_there : r ≡ drop (4 * k + 4) part
+  rest_there = rest_is s x r parts size whole ∙ rw (there, e) (drop-drop 4 (4 * n) part)
+
+  pub rest_next : (m : ℕ) → m ≡ n + 1 → r ≡ drop (4 * m) part
+  rest_next m f = rest_there ∙ ap (λ i. drop i part) (omega (arith, e, f))
+
+  pub next_starts : length part ≤ slot_size - 1 → 0 < length r → IsGroup (4 * k + 4) part
+  next_starts most some =
+      let long : length r ≡ length part - (4 * k + 4) = ap length rest_there ∙ length-drop (4 * k + 4) part in
+      let odd = rest_whole s x r parts size whole some in
+      (omega (arith, long, odd), omega (arith, long, odd), most)
+
+pub nothing_left : (v : Seen) (l : ℕ) (w : Grant) (t : Bool) (mine s : List ℕ) → w ≡ rest_grant v l t mine s → length s ≡ 0 → w ≡ grant_if false []
+unfolding rest_grant
+nothing_left v l w t mine s e h = e ∙ ap (rest_grant v l t mine) (nil_from_length s h)
 
 -- the first group of an expression's bytes is its first group
 first_only : (x : Group) → first_group (group_bytes x) ≡ group_counters x
@@ -114,7 +148,7 @@ module _ (v : Seen) (l : ℕ) where
 
   -- the bytes of an expression grant what it does
   pub grant_joined : (s : List ℕ) → is_some (expression s) ≡ true → (length s ≡ 1 → ⊥) →
-      grant v l (read_expression s) ≡ rest_grant v l true (first_group (drop 0 s)) (drop 0 s)
+      grant v l (read_expression s) ≡ rest_grant v l true (first_group s) s
   unfolding grant
   grant_joined s h n = let (gs, q, b) = groups_of s h n in rw q (sym (rest_groups gs) ∙ ap (λ x. rest_grant v l true (first_group x) x) b)
 
@@ -136,89 +170,83 @@ whole_group s h n =
     let most : length s ≤ slot_size - 1 = omega (arith, expression_length (read_expression s) k, ap length e) in
     (omega (arith, groups_length gs, groups_two gs, ap length b), omega (arith, groups_length gs, ap length b), most)
 
-module _ (s : List ℕ) (h : is_some (expression s) ≡ true) (n : length s ≡ 1 → ⊥) where
-  pub first_bound : 0 + 3 ≤ length s
-  first_bound = (whole_group s h n).0
-
-  pub first_whole : (length s + 1 - 0) % 4 ≡ 0
-  first_whole = (whole_group s h n).1
-
 -- `group_counters` -----------------------------------------------------------------------------------------------------------
 
-pub listed_none : (w ns : List ℕ) → ns ≡ [] → w ≡ ns ++ w
-listed_none w ns e = rw e
+at_most_one : (c : Condition) → length (condition_counters c) ≤ 1
+unfolding condition_counters
+at_most_one c = go (names_counter c)
+  where
+    go : (t : Bool) → length (if t then counter_number c ∷ [] else []) ≤ 1
+    go true = omega arith
+    go false = omega arith
 
--- ns: those listed so far; ms: with those of the condition at i
-module _ (w ns ms s : List ℕ) (i : ℕ) (inv : w ≡ ns ++ first_group (drop i s)) (f : ms ≡ ns ++ condition_counters (condition_at i s)) where
-  group_open : i + 3 < length s → w ≡ ms ++ (if eqb (get_or s (i + 3) 0) 0xFE then [] else first_group (drop (i + 4) s))
+-- ns: those listed so far; ms: with those of the condition in x
+module _ (s x r : List ℕ) (parts : s ≡ x ++ r) (size : length x ≡ min 4 (length s)) (whole : length s % 4 ≡ 3)
+    (w ns ms : List ℕ) (inv : w ≡ ns ++ first_group s) (f : ms ≡ ns ++ condition_counters (condition_at 0 x)) where
+  group_opened : w ≡ ms ++ (if ends_group x then [] else first_group r)
   unfolding first_group condition_at
-  group_open h = inv ∙ ap (λ x. ns ++ first_group x) (four s i h) ∙ rw f (sym (append_assoc ns _ _))
+  group_opened = elim (cases_lt (length x) 4) [
+    | inl h ↦
+        inv ∙ ap (λ b. ns ++ first_group b) (last_chunk s x r parts size whole h)
+        ∙ rw (short_ends s x r parts size whole h, f) (sym (append-nil _))
+    | inr h ↦
+        inv ∙ ap (λ b. ns ++ first_group b) (joined_chunk s x r parts size whole h)
+        ∙ rw (long_ends s x r parts size whole h, f) (sym (append_assoc ns _ _))
+  ]
 
-  pub group_ends : i + 3 < length s → get_or s (i + 3) 0 ≡ 0xFE → ms ≡ w
-  group_ends h q = sym (group_open h ∙ rw (eq-eqb (get_or s (i + 3) 0) 0xFE q) (append-nil ms))
+  -- a condition names at most one
+  pub room_left : ends_group x ≡ false → 4 * length ns + length s ≤ slot_size - 1 → 4 * length ms + length r ≤ slot_size - 1
+  room_left h room = elim (cases_lt (length x) 4) [
+    | inl k ↦ absurd (true≢false (sym (short_ends s x r parts size whole k) ∙ h))
+    | inr k ↦ omega (arith, total s x r parts size whole, ap length f, length-append ns (condition_counters (condition_at 0 x)), at_most_one (condition_at 0 x), k)
+  ]
 
-  pub group_on : i + 3 < length s → (get_or s (i + 3) 0 ≡ 0xFE → ⊥) → w ≡ ms ++ first_group (drop (i + 4) s)
-  group_on h q = group_open h ∙ rw (ne_eqb (get_or s (i + 3) 0) 0xFE q)
+  pub group_ends : ends_group x ≡ true → ms ≡ w
+  group_ends h = sym (rw h at group_opened ∙ append-nil ms)
 
-  pub group_last : i + 3 ≤ length s → length s ≤ i + 3 → ms ≡ w
-  unfolding first_group condition_at
-  group_last h k = f ∙ sym (inv ∙ ap (λ x. ns ++ first_group x) (three s i (omega arith)))
+  pub group_on : ends_group x ≡ false → w ≡ ms ++ first_group r
+  group_on h = rw h at group_opened
 
--- `grant_of` -----------------------------------------------------------------------------------------------------------------
+pub group_all : (w ns s : List ℕ) → w ≡ ns ++ first_group s → length s ≡ 0 → ns ≡ w
+unfolding first_group
+group_all w ns s e h = sym (e ∙ ap (λ b. ns ++ first_group b) (nil_from_length s h) ∙ append-nil ns)
 
-module _ (r : Found) (s : List ℕ) (w : Grant) (d : Decides r s w) where
-  pub decides_at : (p : ℕ) → r ≡ Some p → IsGroup p s
-  decides_at p e = (rw e at d).0
+-- `granted` --------------------------------------------------------------------------------------------------------------------
 
-  pub decided : (p : ℕ) (c : Counters) → r ≡ Some p → listed c ≡ first_group (drop p s) → told (record { granted = true; counters = c }) ≡ w
-  unfolding told
-  decided p c e f = rw f (sym (rw e at d).1)
-
-  pub undecided : (g : Grant) → r ≡ None → g ≡ grant_if false [] → g ≡ w
-  undecided g e f = f ∙ sym (rw e at d)
-
--- `slot_grant`
-module _ (p : ℕ) (b : List ℕ) (t : Stored p b) (w : Slot) (part : List ℕ) (e : part ≡ expression_bytes (expression_in w (object_at p b))) where
-  pub slot_well_formed : is_some (expression part) ≡ true
-  slot_well_formed = ap (λ x. is_some (expression x)) e ∙ slot_expression p b w t
-
-  pub slot_grants : (v : Seen) (l : ℕ) (g : Grant) → l ≡ (object_at p b).lcso → g ≡ grant v l (read_expression part) →
-      g ≡ grant v (object_at p b).lcso (expression_in w (object_at p b))
-  slot_grants v l g f h =
-      h ∙ (λ i. grant v (f i) (read_expression (e i))) ∙ ap (grant v (object_at p b).lcso) (read_bytes (expression_in w (object_at p b)))
-
--- `grant`: the expression that each action asks of a stored object
-module _ (p : ℕ) (b : List ℕ) (t : Stored p b) where
-  pub set_asks : asked SetMetadata (object_at p b) ≡ expression_in Change (object_at p b)
+-- the expression that an action asks of the object o
+module _ (a : Action) (o : Object) where
+  pub asks_read : a ≡ GetData → asked a o ≡ expression_in Read o
   unfolding asked expression_in
-  set_asks = rw (stored_kind p b t)
+  asks_read e = rw e
 
-  -- a plain write: whether the object is a queue was called
-  module _ (r : Bool) (q : r ≡ is Queue (object_at p b).kind) where
-    pub queue_closed : (s : Session) (g : Grant) → r ≡ true → g ≡ grant_if false [] → g ≡ access Write (object_at p b) (seen_in b s)
+  pub write_asks_change : (a ≡ Write) ⊎ (a ≡ EraseAndWrite) → is Queue o.kind ≡ false → asked a o ≡ expression_in Change o
+  unfolding asked expression_in
+  write_asks_change (inl e) h = rw (e, h)
+  write_asks_change (inr e) h = rw (e, h)
+
+  module _ (ok : object_allowed o ≡ true) where
+    stored_kind : of_session o.kind ≡ false
+    stored_kind = (storable o.kind o.maximum o.content (allowed o ok).content).not_of_session
+
+    pub asks_change : (a ≡ SetMetadata) ⊎ (a ≡ Count) ⊎ (a ≡ Append) ⊎ (a ≡ Acknowledge) → asked a o ≡ expression_in Change o
+    unfolding asked expression_in
+    asks_change (inl e) = rw (e, stored_kind)
+    asks_change (inr (inl e)) = rw e
+    asks_change (inr (inr (inl e))) = rw e
+    asks_change (inr (inr (inr e))) = rw e
+
+    pub metadata_free : (v : Seen) (ns : List ℕ) → a ≡ GetMetadata → ns ≡ [] → grant_if true ns ≡ access a o v
     unfolding access asked grant
-    queue_closed s g h f = f ∙ rw (← q, h)
+    metadata_free v ns e f = rw (e, f, stored_kind)
 
-    pub queue_open : (s : Session) (g : Grant) → r ≡ false →
-        g ≡ grant (seen_in b s) (object_at p b).lcso (expression_in Change (object_at p b)) → g ≡ access Write (object_at p b) (seen_in b s)
-    unfolding access asked expression_in
-    queue_open s g h f = f ∙ rw (← q, h)
+  pub queue_closed : (v : Seen) → (a ≡ Write) ⊎ (a ≡ EraseAndWrite) → is Queue o.kind ≡ true → grant_if false [] ≡ access a o v
+  unfolding access asked grant
+  queue_closed v (inl e) h = rw (e, h)
+  queue_closed v (inr e) h = rw (e, h)
 
-  module _ (a : Action) (s : Session) (g : Grant) where
-    -- where it asks what a plain write does
-    pub as_write : (v : Action) → a ≡ v → asked v (object_at p b) ≡ asked Write (object_at p b) →
-        g ≡ access Write (object_at p b) (seen_in b s) → g ≡ access a (object_at p b) (seen_in b s)
-    unfolding access
-    as_write v e q h = h ∙ ap (grant (seen_in b s) (object_at p b).lcso) (sym q ∙ ap (λ x. asked x (object_at p b)) (sym e))
-
-    -- where it is free of a stored object
-    pub free : (v : Action) → a ≡ v → asked v (object_at p b) ≡ (if of_session (object_at p b).kind then never else always) →
-        g ≡ grant_if true [] → g ≡ access a (object_at p b) (seen_in b s)
-    unfolding access grant
-    free v e q f = f ∙ rw (e, q, stored_kind p b t)
-
-    -- where it asks what a slot holds
-    pub by_slot : (v : Action) (w : Slot) → a ≡ v → asked v (object_at p b) ≡ expression_in w (object_at p b) →
-        g ≡ grant (seen_in b s) (object_at p b).lcso (expression_in w (object_at p b)) → g ≡ access a (object_at p b) (seen_in b s)
-    unfolding access
-    by_slot v w e q h = h ∙ ap (grant (seen_in b s) (object_at p b).lcso) (sym q ∙ ap (λ x. asked x (object_at p b)) (sym e))
+  -- what is granted by the slot that it asks
+  pub slot_grants : (v : Seen) (w : Slot) (part : List ℕ) (l : ℕ) (g : Grant) → asked a o ≡ expression_in w o →
+      part ≡ expression_bytes (expression_in w o) → l ≡ o.lcso → g ≡ grant v l (read_expression part) → g ≡ access a o v
+  unfolding access
+  slot_grants v w part l g q e f h =
+      h ∙ (λ i. grant v (f i) (read_expression (e i))) ∙ ap (grant v o.lcso) (read_bytes (expression_in w o) ∙ sym q)

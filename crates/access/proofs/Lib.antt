@@ -1,3 +1,3 @@
-pub mod Listing
+pub mod Chunks
 pub mod Uses
 pub mod Granting

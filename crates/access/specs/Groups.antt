@@ -1,8 +1,16 @@
 -- Groups in the bytes of an expression.
-use Rattle.std.specs.Prelude.{ℕ, ◌+◌, ◌-◌, ◌%◌, ◌≤◌, ◌≡◌, true, false, List, [], ◌∷◌, ◌++◌, eqb, length, drop, if◌then◌else◌, Some, None}
+use Rattle.std.specs.Prelude.{ℕ, ◌+◌, ◌-◌, ◌%◌, ◌≤◌, ◌≡◌, Bool, true, false, ◌||◌, List, [], ◌∷◌, ◌++◌, eqb, ltb, length, get_or, drop, if◌then◌else◌, Option, Some, None}
 use Rattle.rules.specs.Found.{Found}
-use Rattle.rules.specs.Expression.{slot_size}
+use Rattle.rules.specs.Expression.{Condition, names_counter, counter_number, slot_size}
 use Rattle.rules.specs.Access.{condition_counters, Grant, grant_if}
+
+-- the number of the counter that a condition names, if it names one
+abbrev pub counter_named : Condition → Option ℕ
+counter_named c = if names_counter c then Some (counter_number c) else None
+
+-- a group ends with the condition in these bytes: FE joins it to the next group, or nothing follows
+abbrev pub ends_group : List ℕ → Bool
+ends_group b = ltb (length b) 4 || eqb (get_or b 3 0) 0xFE
 
 -- the counters that the first group of these bytes names: FE ends it
 unfoldable pub first_group : List ℕ → List ℕ

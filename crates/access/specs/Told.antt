@@ -1,12 +1,7 @@
--- What the structs of numbers and grants say, in the words of the rules.
-use Rattle.std.specs.Prelude.{ℕ, List, take}
-use Rattle.rules.specs.Access.{Grant}
-use Rattle.access.specs.declared.Counters.{Counters}
-use Rattle.access.specs.declared.Grant as declared
+-- What a grant says, in the words of the rules: the counters that it uses up, if it is one.
+use Rattle.std.specs.Prelude.{ℕ, List, [], true, false, Option, Some, None}
+use Rattle.rules.specs.Access.{Grant, grant_if}
 
--- the first `count` numbers
-unfoldable pub listed : Counters → List ℕ
-listed c = take c.count c.numbers
-
-unfoldable pub told : declared.Grant → Grant
-told g = record { granted = g.granted; counters = listed g.counters }
+abbrev pub told : Option (List ℕ) → Grant
+told None = grant_if false []
+told (Some ns) = grant_if true ns

@@ -1,269 +1,236 @@
-// Access: which expression an action asks of a found record, whether it is granted, and which counters that uses up.
+// Access: which expression an action asks of a stored object, whether it is granted, and which counters that uses up.
 #![tactic(auto)]
 
-ghost use Rattle.std.specs.Prelude.{◌≡◌, true, ◌&&◌, [], ◌∷◌, ◌++◌, ◌+◌, ◌≤◌, ◌<◌, length, drop, if◌then◌else◌};
-ghost use Rattle.std.proofs.Math.Option.{some};
-ghost use Rattle.rules.specs.declared.Action.TheVariants.{Write};
+ghost use Rattle.std.specs.Prelude.{◌≡◌, true, [], ◌∷◌, ◌++◌, ◌≤◌, ◌<◌, ◌||◌, eqb, length};
 ghost use Rattle.rules.specs.Basic.{is_some, or_else};
 ghost use Rattle.rules.specs.Expression.{slot_size, most_conditions, expression, read_expression};
-ghost use Rattle.rules.specs.Object.{expression_in};
 ghost use Rattle.rules.specs.Layout.{unpack, find};
-ghost use Rattle.rules.specs.Access.{seen, seen_in, present, state_holds, usable, condition_holds, condition_counters, grant_if, grant, access};
+ghost use Rattle.rules.specs.Access.{seen, seen_in, present, state_holds, usable, condition_holds, condition_counters, grant, access};
 ghost use Rattle.expression.specs.Conditions.{condition_at};
-ghost use Rattle.record.specs.Places.{object_at, Stored};
-ghost use Rattle.access.specs.Told.{listed, told};
-ghost use Rattle.access.specs.Groups.{first_group, IsGroup, Decides};
+ghost use Rattle.access.specs.Told.{told};
+ghost use Rattle.access.specs.Groups.{counter_named, ends_group, first_group, IsGroup, Decides};
 
-use rules::{Action, Found, ObjectNumber, Session, Slot};
+use record::StoredObject;
+use rules::{Action, ObjectNumber, Session, Slot};
+use std::marker::Model;
 
-// Numbers of counters: the first `count`, at most one for each condition.
-#[derive(Clone, Copy)]
+// The bytes of a condition and of the byte that joins it to the next.
+const JOINED: usize = 4;
+
+// Numbers of counters, at most one for each condition: seen as their list.
+#[derive(Drop)]
 pub struct Counters {
-    pub count: usize,
-    pub numbers: [u16; expression::CONDITIONS],
+    count: usize,
+    numbers: [u16; expression::CONDITIONS],
 }
 
-// Whether an expression is granted, and the counters that it then uses up.
-#[derive(Clone, Copy)]
-pub struct Grant {
-    pub granted: bool,
-    pub counters: Counters,
+impl Model for Counters {
+    ghost use Rattle.std.specs.Prelude.{ℕ, List, take, ◌≤◌};
+    ghost use Rattle.rules.specs.Expression.{slot_size, most_conditions};
+
+    ghost Value = { List ℕ };
+
+    ghost view = { λ c. take c.count c.numbers };
+
+    ghost invariant = { λ c. c.count ≤ most_conditions slot_size };
 }
 
-// The state that a condition speaks of.
-fn state_of(session: Session, lcso: u8, subject: u8) -> u8
-    ensures { result ≡ present (seen [] session) lcso subject }
-{
-    if subject == 0x70 {
-        return session.lcsg;
-    }
-    if subject == 0xE0 {
-        return session.lcsa;
-    }
-    lcso
-}
-
-// Whether the condition of the three bytes at `at` holds, where it is on a state.
-fn state_holds(part: &[u8], at: usize, session: Session, lcso: u8) -> bool
-    requires { at + 2 < length part.now }
-    ensures { result ≡ state_holds (seen [] session) lcso (condition_at at part.now) }
-{
-    let state = state_of(session, lcso, part[at]);
-    let relation = part[at + 1];
-    let reference = part[at + 2];
-    if relation == 0xFA {
-        return state == reference;
-    }
-    if relation == 0xFB {
-        return reference < state;
-    }
-    state < reference
-}
-
-// Whether a found record is that of an up counter below its threshold.
-fn is_usable_at(store: &[u8], at: usize) -> bool
-    requires { Stored at store.now }
-    ensures { result ≡ usable (some (object_at at store.now)) }
-{
-    if !record::is_up_counter(store, at) {
-        return false;
-    }
-    !record::exhausted(store, at)
-}
-
-// Whether there is an up counter of this number, below its threshold.
-fn is_usable(store: &[u8], number: u16) -> bool
-    requires { is_some (unpack store.now) ≡ true }
-    ensures { result ≡ usable (find number (or_else (unpack store.now) [])) }
-{
-    let found = store::find_record(store, ObjectNumber(number));
-    let Found::At(at) = found else {
-        return false;
-    };
-    is_usable_at(store, at)
-}
-
-// Whether the condition of the three bytes at `at` holds.
-fn condition_holds(part: &[u8], at: usize, store: &[u8], session: Session, lcso: u8) -> bool
-    requires { (at + 2 < length part.now) × (is_some (unpack store.now) ≡ true) }
-    ensures { result ≡ condition_holds (seen_in store.now session) lcso (condition_at at part.now) }
-{
-    if part[at] == expression::COUNTER {
-        return is_usable(store, primitives::big_endian_at(part, at + 1));
-    }
-    state_holds(part, at, session, lcso)
-}
-
-// Whether a group that held so far holds with the condition at `at`: where it did not, no counter is looked up.
-fn still_holds(
-    before: bool,
-    part: &[u8],
-    at: usize,
-    store: &[u8],
-    session: Session,
-    lcso: u8,
-) -> bool
-    requires { (at + 2 < length part.now) × (is_some (unpack store.now) ≡ true) }
-    ensures { result ≡ (before && condition_holds (seen_in store.now session) lcso (condition_at at part.now)) }
-{
-    if !before {
-        return false;
-    }
-    condition_holds(part, at, store, session, lcso)
-}
-
-// No numbers.
-pub fn no_counters() -> Counters
-    ensures { (result.count ≡ 0) × (listed result ≡ []) }
-{
-    Counters {
-        count: 0,
-        numbers: [0; expression::CONDITIONS],
-    }
-}
-
-// With one number more.
-fn with_number(counters: Counters, number: u16) -> Counters
-    requires { counters.count < most_conditions slot_size }
-    ensures { (result.count ≡ counters.count + 1) × (listed result ≡ listed counters ++ number ∷ []) }
-{
-    let count = counters.count;
-    let mut numbers = counters.numbers;
-    numbers[count] = number;
-    Counters {
-        count: count + 1,
-        numbers,
-    }
-}
-
-// With the counter that the condition at `at` names, if it names one.
-fn with_condition(counters: Counters, part: &[u8], at: usize) -> Counters
-    requires { (at + 2 < length part.now) × (counters.count < most_conditions slot_size) }
-    ensures { (result.count ≤ counters.count + 1) × (listed result ≡ listed counters ++ condition_counters (condition_at at part.now)) }
-{
-    if part[at] != expression::COUNTER {
-        return counters;
-    }
-    with_number(counters, primitives::big_endian_at(part, at + 1))
-}
-
-// Granted or not, using up none.
-fn without_counters(granted: bool) -> Grant
-    ensures { (result.counters.count ≤ most_conditions slot_size) × (told result ≡ grant_if granted []) }
-{
-    Grant {
-        granted,
-        counters: no_counters(),
-    }
-}
-
-// Where a group begins: the next one, where the present one has ended.
-fn group_start(ended: bool, next: usize, present: usize) -> usize
-    ensures { result ≡ (if ended then next else present) }
-{
-    if ended {
-        return next;
-    }
-    present
-}
-
-// The first true group from the left, by its place: FE ends a group, so and binds first.
-fn deciding_group(part: &[u8], store: &[u8], session: Session, lcso: u8) -> Found
-    requires { (is_some (expression part.now) ≡ true) × (length part.now ≡ 1 → ⊥) × (is_some (unpack store.now) ≡ true) }
-    ensures { Decides result part.now (grant (seen_in store.now session) lcso (read_expression part.now)) }
-{
-    let mut at: usize = 0;
-    let mut start: usize = 0;
-    let mut before = true;
-    while at + 3 < part.len() {
-        let held = still_holds(before, part, at, store, session, lcso);
-        let ends = part[at + 3] == 0xFE;
-        if primitives::and(ends, held) {
-            return Found::At(start);
+impl Counters {
+    pub fn none() -> Self
+        ensures { result ≡ [] }
+    {
+        Counters {
+            count: 0,
+            numbers: [0; expression::CONDITIONS],
         }
-        before = primitives::or(ends, held);
-        at += 4;
-        start = group_start(ends, at, start);
     }
-    if still_holds(before, part, at, store, session, lcso) {
-        return Found::At(start);
+
+    fn push(&mut self, number: u16)
+        requires { length self.old < most_conditions slot_size }
+        ensures { self.new ≡ self.old ++ number ∷ [] }
+    {
+        self.numbers[self.count] = number;
+        self.count += 1;
     }
-    Found::Nothing
+
+    // With the counter that a condition names, if it names one.
+    #[tactic(auto, unfolding(rules::specs::Access::condition_counters))]
+    fn push_named(&mut self, condition: &[u8])
+        requires { (3 ≤ length condition.now) × (length self.old < most_conditions slot_size) }
+        ensures { self.new ≡ self.old ++ condition_counters (condition_at 0 condition.now) }
+    {
+        if let Some(number) = counter_named(condition) {
+            self.push(number);
+        }
+    }
+
+    pub fn numbers(&self) -> &[u16]
+        ensures { result.now ≡ self.now }
+    {
+        &self.numbers[..self.count]
+    }
 }
 
-// The counters that the group at a place names, up to the byte FE that ends it.
-fn group_counters(part: &[u8], start: usize) -> Counters
-    requires { IsGroup start part.now }
-    ensures { (result.count ≤ most_conditions slot_size) × (listed result ≡ first_group (drop start part.now)) }
+// The number of the counter that a condition names, if it names one.
+#[tactic(auto, unfolding(expression::specs::Conditions::condition_at, rules::specs::Expression::names_counter, rules::specs::Expression::counter_number))]
+fn counter_named(condition: &[u8]) -> Option<u16>
+    requires { 3 ≤ length condition.now }
+    ensures { result ≡ counter_named (condition_at 0 condition.now) }
 {
-    let mut at = start;
-    let mut counters = no_counters();
-    while at + 3 < part.len() {
-        counters = with_condition(counters, part, at);
-        if part[at + 3] == 0xFE {
+    if condition[0] != expression::COUNTER {
+        return None;
+    }
+    Some(primitives::big_endian_at(condition, 1))
+}
+
+// Whether a group ends with a condition: FE joins it to the next group, or nothing follows.
+fn ends_group(condition: &[u8]) -> bool
+    requires { 3 ≤ length condition.now }
+    ensures { result ≡ ends_group condition.now }
+{
+    condition.len() < JOINED || condition[3] == 0xFE
+}
+
+// The counters that the first group of these bytes names.
+fn group_counters(part: &[u8]) -> Counters
+    requires { IsGroup 0 part.now }
+    ensures { result ≡ first_group part.now }
+{
+    let mut counters = Counters::none();
+    for condition in part.chunks(JOINED) {
+        counters.push_named(condition);
+        if ends_group(condition) {
             return counters;
         }
-        at += 4;
     }
-    with_condition(counters, part, at)
+    counters
 }
 
-// What the expression of these bytes grants.
-fn grant_of(part: &[u8], store: &[u8], session: Session, lcso: u8) -> Grant
-    requires { (is_some (expression part.now) ≡ true) × (is_some (unpack store.now) ≡ true) }
-    ensures { (result.counters.count ≤ most_conditions slot_size)
-        × (told result ≡ grant (seen_in store.now session) lcso (read_expression part.now)) }
-{
-    if part.len() == 1 {
-        let b = part[0];
-        return without_counters(b == 0x00);
+// What the conditions of an expression see: a sound store, the session, and the LcsO of the object.
+#[derive(Drop)]
+struct Sight<'a> {
+    store: &'a [u8],
+    session: Session,
+    lcso: u8,
+    ghost sound: { is_some (unpack store.now) ≡ true },
+}
+
+impl Sight<'_> {
+    // The state that a condition speaks of.
+    #[tactic(auto, unfolding(rules::specs::Access::seen, rules::specs::Access::present))]
+    fn state_of(&self, subject: u8) -> u8
+        ensures { result ≡ present (seen [] self.now.session) self.now.lcso subject }
+    {
+        match subject {
+            0x70 => self.session.lcsg,
+            0xE0 => self.session.lcsa,
+            _ => self.lcso,
+        }
     }
-    let decides = deciding_group(part, store, session, lcso);
-    let Found::At(start) = decides else {
-        return without_counters(false);
+
+    // Whether a condition on a state holds.
+    #[tactic(auto, unfolding(rules::specs::Access::state_holds, expression::specs::Conditions::condition_at))]
+    fn state_holds(&self, condition: &[u8]) -> bool
+        requires { 3 ≤ length condition.now }
+        ensures { result ≡ state_holds (seen [] self.now.session) self.now.lcso (condition_at 0 condition.now) }
+    {
+        let state = self.state_of(condition[0]);
+        let reference = condition[2];
+        match condition[1] {
+            0xFA => state == reference,
+            0xFB => reference < state,
+            _ => state < reference,
+        }
+    }
+
+    // Whether there is an up counter of this number, below its threshold.
+    #[tactic(auto, using(store::proofs::Ways::sound_leads, crate::proofs::Uses::not_usable, crate::proofs::Uses::counter_stored, crate::proofs::Uses::not_up, crate::proofs::Uses::up_usable, crate::proofs::Uses::up_counter))]
+    fn is_usable(&self, number: u16) -> bool
+        ensures { result ≡ usable (find number (or_else (unpack self.now.store.now) [])) }
+    {
+        let Some(at) = store::find_record(self.store, ObjectNumber(number)) else {
+            return false;
+        };
+        let object = StoredObject::at(self.store, at);
+        object.is_up_counter() && !object.is_exhausted()
+    }
+
+    // Whether a condition holds.
+    #[tactic(auto, unfolding(rules::specs::Access::condition_holds, rules::specs::Access::state_holds, rules::specs::Access::present, rules::specs::Access::seen))]
+    fn condition_holds(&self, condition: &[u8]) -> bool
+        requires { 3 ≤ length condition.now }
+        ensures { result ≡ condition_holds (seen_in self.now.store.now self.now.session) self.now.lcso (condition_at 0 condition.now) }
+    {
+        match counter_named(condition) {
+            Some(number) => self.is_usable(number),
+            None => self.state_holds(condition),
+        }
+    }
+
+    // Where the first true group from the left begins: FE ends a group, so and binds first.
+    fn deciding_group(&self, part: &[u8]) -> Option<usize>
+        requires { (is_some (expression part.now) ≡ true) × (length part.now ≡ 1 → ⊥) }
+        ensures { Decides result part.now (grant (seen_in self.now.store.now self.now.session) self.now.lcso (read_expression part.now)) }
+    {
+        let mut start: usize = 0;
+        let mut held = true;
+        for (place, condition) in part.chunks(JOINED).enumerate() {
+            held = held && self.condition_holds(condition);
+            if ends_group(condition) {
+                if held {
+                    return Some(start);
+                }
+                start = JOINED * place + JOINED;
+                held = true;
+            }
+        }
+        None
+    }
+
+    // What the expression of these bytes grants.
+    fn grant_of(&self, part: &[u8]) -> Option<Counters>
+        requires { is_some (expression part.now) ≡ true }
+        ensures { told result ≡ grant (seen_in self.now.store.now self.now.session) self.now.lcso (read_expression part.now) }
+    {
+        if part.len() == 1 {
+            return if part[0] == 0x00 {
+                Some(Counters::none())
+            } else {
+                None
+            };
+        }
+        let start = self.deciding_group(part)?;
+        Some(group_counters(&part[start..]))
+    }
+}
+
+// The counters that an action on a stored object uses up, if it is granted: a plain write to a queue is not, whatever its change
+// expression says.
+pub fn granted(
+    asked: Action,
+    object: &StoredObject<'_>,
+    store: &[u8],
+    session: Session,
+) -> Option<Counters>
+    requires { is_some (unpack store.now) ≡ true }
+    ensures { told result ≡ access asked object.now (seen_in store.now session) }
+{
+    let sight = Sight {
+        store,
+        session,
+        lcso: object.lcso(),
     };
-    Grant {
-        granted: true,
-        counters: group_counters(part, start),
-    }
-}
-
-// What the expression in a slot of a found record grants, at the LcsO that is stored.
-fn slot_grant(store: &[u8], at: usize, slot: Slot, session: Session) -> Grant
-    requires { Stored at store.now × (is_some (unpack store.now) ≡ true) }
-    ensures { (result.counters.count ≤ most_conditions slot_size)
-        × (told result ≡ grant (seen_in store.now session) (object_at at store.now).lcso (expression_in slot (object_at at store.now))) }
-{
-    let part = record::slot_part(store, at, slot);
-    grant_of(part, store, session, record::lcso_at(store, at))
-}
-
-// What is granted to a plain write, erasing or not: nothing at a queue, whatever its change expression says.
-fn plain_write_grant(store: &[u8], at: usize, session: Session) -> Grant
-    requires { Stored at store.now × (is_some (unpack store.now) ≡ true) }
-    ensures { (result.counters.count ≤ most_conditions slot_size)
-        × (told result ≡ access Write (object_at at store.now) (seen_in store.now session)) }
-{
-    if record::is_queue(store, at) {
-        return without_counters(false);
-    }
-    slot_grant(store, at, Slot::Change, session)
-}
-
-// What is granted to an action on a found record.
-pub fn granted(asked: Action, store: &[u8], at: usize, session: Session) -> Grant
-    requires { Stored at store.now × (is_some (unpack store.now) ≡ true) }
-    ensures { (result.counters.count ≤ most_conditions slot_size)
-        × (told result ≡ access asked (object_at at store.now) (seen_in store.now session)) }
-{
     match asked {
-        Action::GetData => slot_grant(store, at, Slot::Read, session),
-        Action::GetMetadata => without_counters(true),
-        Action::Write => plain_write_grant(store, at, session),
-        Action::EraseAndWrite => plain_write_grant(store, at, session),
-        Action::SetMetadata => slot_grant(store, at, Slot::Change, session),
-        Action::Count => slot_grant(store, at, Slot::Change, session),
-        Action::Append => slot_grant(store, at, Slot::Change, session),
-        Action::Acknowledge => slot_grant(store, at, Slot::Change, session),
+        Action::GetMetadata => Some(Counters::none()),
+        Action::GetData => sight.grant_of(object.expression(Slot::Read)),
+        Action::Write | Action::EraseAndWrite => {
+            if object.is_queue() {
+                return None;
+            }
+            sight.grant_of(object.expression(Slot::Change))
+        }
+        Action::SetMetadata | Action::Count | Action::Append | Action::Acknowledge => {
+            sight.grant_of(object.expression(Slot::Change))
+        }
     }
 }

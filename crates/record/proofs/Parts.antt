@@ -3,7 +3,7 @@ use Rattle.std.specs.Prelude.{Ok}
 use Prim.Native.Nat.{ℕ, ◌+◌, ◌-◌, ◌≤◌}
 use mathlib.Core.Bool.{Bool, true}
 use mathlib.Core.List.{List}
-use mathlib.Core.Path.{◌≡◌, ap, ◌∙◌}
+use mathlib.Core.Path.{◌≡◌, sym, ap, ◌∙◌}
 use native.Mathlib.Omega.{arith}
 use native.Mathlib.Nat.{add-sub_cancel_left}
 use lib.ListN.{length, get_or, take, drop, length-drop}
@@ -47,12 +47,21 @@ module _ (p : ℕ) (b : List ℕ) (o : Object) (e : object_at p b ≡ o) (s : St
     pub slot_lent : (r : List ℕ) → r ≡ take (get_or b (p + k) 0) (drop (p + k + 1) b) → r ≡ expression_bytes (expression_in w o)
     slot_lent r q = q ∙ slot_value (p + k) b _ held
 
+    pub slot_formed : (r : List ℕ) → r ≡ take (get_or b (p + k) 0) (drop (p + k + 1) b) → is_some (expression r) ≡ true
+    slot_formed r q =
+        let e = expression_in w o in
+        ap (λ x. is_some (expression x)) (slot_lent r q) ∙ some_is (expression (expression_bytes e)) e (expression_back e (slot_allowed o told.allowed w))
+
   -- data in use
   pub data_lent : (k n : ℕ) → k + n ≤ used o →
       take (p + head_size + k + n - (p + head_size + k)) (drop (p + head_size + k) b) ≡ take n (drop k o.content)
   data_lent k n h =
       rw (add-sub_cancel_left, ← drop-drop k (p + head_size) b, data_here p b o _ told.allowed told.here, drop-append-le k o.content _ (omega arith))
       (take-append-le n (drop k o.content) _ (simp length-drop (omega arith)))
+
+  -- all of it
+  pub content_lent : (n : ℕ) → n ≡ used o → take (p + head_size + n - (p + head_size)) (drop (p + head_size) b) ≡ o.content
+  content_lent n h = rw (add-sub_cancel_left, data_here p b o _ told.allowed told.here) (take_at o.content _ n (sym h))
 
   -- a counter: all of its data is in use
   module _ (h : is_counter o.kind ≡ true) where
@@ -63,8 +72,7 @@ module _ (p : ℕ) (b : List ℕ) (o : Object) (e : object_at p b ≡ o) (s : St
     counter_inside = omega (arith, told.inside, sizes.0)
 
     counter_lent : take (p + head_size + counter_size - (p + head_size)) (drop (p + head_size) b) ≡ o.content
-    counter_lent =
-        rw (add-sub_cancel_left, data_here p b o _ told.allowed told.here) (take_at o.content _ counter_size sizes.1)
+    counter_lent = content_lent counter_size (sym sizes.1)
 
     pub counter_part : length (take (p + head_size + counter_size - (p + head_size)) (drop (p + head_size) b)) ≡ counter_size
     counter_part = ap length counter_lent ∙ sizes.1
@@ -72,9 +80,3 @@ module _ (p : ℕ) (b : List ℕ) (o : Object) (e : object_at p b ≡ o) (s : St
     pub exhausted_there : (w : Direction) (r : Bool) → w ≡ direction o.kind →
         r ≡ exhausted w (take (p + head_size + counter_size - (p + head_size)) (drop (p + head_size) b)) → r ≡ exhausted (direction o.kind) o.content
     exhausted_there w r ew f = f ∙ (λ i. exhausted (ew i) (counter_lent i))
-
--- the bytes in each slot of a record that stands there are an expression
-pub slot_expression : (p : ℕ) (b : List ℕ) (w : Slot) → Stored p b → is_some (expression (expression_bytes (expression_in w (object_at p b)))) ≡ true
-slot_expression p b w s =
-    let e = expression_in w (object_at p b) in
-    some_is (expression (expression_bytes e)) e (expression_back e (slot_allowed (object_at p b) (standing p b s.stands).allowed w))

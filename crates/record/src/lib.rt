@@ -4,8 +4,8 @@
 ghost use Rattle.std.specs.Prelude.{◌≡◌, true, ◌&&◌, ◌+◌, ◌-◌, ◌≤◌, ◌<◌, eqb, length, get_or, take, drop};
 ghost use Rattle.rules.specs.declared.Kind.TheVariants.{Data, Counter, Queue};
 ghost use Rattle.rules.specs.declared.Direction.TheVariants.{Up};
-ghost use Rattle.rules.specs.Basic.{little_endian_at, little_endian};
-ghost use Rattle.rules.specs.Expression.{expression_bytes};
+ghost use Rattle.rules.specs.Basic.{is_some, little_endian_at, little_endian};
+ghost use Rattle.rules.specs.Expression.{expression, expression_bytes};
 ghost use Rattle.rules.specs.Object.{Object, used, is, is_counter, direction, counter_size, in_session, object_allowed, expression_in};
 ghost use Rattle.rules.specs.Layout.{slot_size, head_size, slot_at, slot_of};
 ghost use Rattle.rules.specs.Counter.{exhausted};
@@ -372,9 +372,10 @@ impl<'a> StoredObject<'a> {
         self.store[self.at + LCSO]
     }
 
-    // The expression in a slot: a part of the caller's slice.
+    // The expression in a slot: a part of the caller's slice, well formed.
     pub fn expression(&self, slot: Slot) -> &'a [u8]
         ensures bytes { result.now ≡ expression_bytes (expression_in slot self.now) }
+        ensures formed { is_some (expression result.now) ≡ true }
         ensures allowed { object_allowed self.now ≡ true }
     {
         counted(self.store, self.at + slot_at(slot))
@@ -391,12 +392,15 @@ impl<'a> StoredObject<'a> {
         &self.store[a..e]
     }
 
-    // The data in use.
+    // The data in use, of an object that may stand in a store.
+    #[tactic(auto, using(crate::proofs::Parts::told_allowed, crate::proofs::Parts::content_lent))]
     pub fn content(&self) -> &'a [u8]
         ensures bytes { result.now ≡ self.now.content }
         ensures allowed { object_allowed self.now ≡ true }
     {
-        self.data(Offset(0), self.used())
+        let a = self.at + DATA;
+        let e = a + self.used().0;
+        &self.store[a..e]
     }
 
     // Whether a counter is at or past its threshold.

@@ -1,38 +1,23 @@
--- Each action asks a slot, or is free.
-use Rattle.rules.specs.Access.{asked}
-use Rattle.rules.specs.Object.{expression_in}
-use borrow.Author.Rules.{rules}
-use Rattle.access.proofs.Granting.{free, by_slot, as_write, set_asks}
+-- Each action asks a slot, or is free, or is a plain write to a queue.
+use mathlib.Core.Path.{sym, ◌∙◌}
+use Rattle.access.proofs.Granting.{asks_read, asks_change, write_asks_change, metadata_free, queue_closed, slot_grants}
 use Rattle.access.proofs.granted.Goals as goal
 
-pub returns-in-GetData : goal.returns-in-GetData
-unfolding asked expression_in
-returns-in-GetData c = (search rules, search by_slot)
-
 pub returns-in-GetMetadata : goal.returns-in-GetMetadata
-unfolding asked expression_in
-returns-in-GetMetadata c = (search rules, search free)
+returns-in-GetMetadata c = metadata_free _ _ c.lcso.ensures.allowed _ _ c.in-GetMetadata.is c.none.ensures
 
-pub returns-in-Write : goal.returns-in-Write
-unfolding asked expression_in
-returns-in-Write c = (search rules, search as_write)
+pub returns-in-GetData : goal.returns-in-GetData
+returns-in-GetData c = slot_grants _ _ _ _ _ _ _ (asks_read _ _ c.in-GetData.is) c.expression.ensures.bytes c.lcso.ensures.state c.grant_of.ensures
 
-pub returns-in-EraseAndWrite : goal.returns-in-EraseAndWrite
-unfolding asked expression_in
-returns-in-EraseAndWrite c = (search rules, search as_write)
+pub returns-then-is_queue : goal.returns-then-is_queue
+returns-then-is_queue c = queue_closed _ _ _ c.in-Write.is (sym c.is_queue.ensures ∙ c.if-is_queue.true)
+
+pub returns-else-is_queue : goal.returns-else-is_queue
+returns-else-is_queue c =
+    let asks = write_asks_change _ _ c.in-Write.is (sym c.is_queue.ensures ∙ c.if-is_queue.false) in
+    slot_grants _ _ _ _ _ _ _ asks c.expression-in-Write.ensures.bytes c.lcso.ensures.state c.grant_of-in-Write.ensures
 
 pub returns-in-SetMetadata : goal.returns-in-SetMetadata
-unfolding asked expression_in
-returns-in-SetMetadata c = (search rules, search (by_slot, set_asks))
-
-pub returns-in-Count : goal.returns-in-Count
-unfolding asked expression_in
-returns-in-Count c = (search rules, search by_slot)
-
-pub returns-in-Append : goal.returns-in-Append
-unfolding asked expression_in
-returns-in-Append c = (search rules, search by_slot)
-
-pub returns-in-Acknowledge : goal.returns-in-Acknowledge
-unfolding asked expression_in
-returns-in-Acknowledge c = (search rules, search by_slot)
+returns-in-SetMetadata c =
+    slot_grants _ _ _ _ _ _ _ (asks_change _ _ c.lcso.ensures.allowed c.in-SetMetadata.is) c.expression-in-SetMetadata.ensures.bytes c.lcso.ensures.state
+    c.grant_of-in-SetMetadata.ensures

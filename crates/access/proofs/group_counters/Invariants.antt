@@ -1,16 +1,13 @@
-use Prim.Native.Nat.{◌+◌, ◌*◌, ◌-◌, ◌%◌, ◌≤◌}
-use mathlib.Core.Path.{◌≡◌}
-use mathlib.Core.List.{◌++◌}
-use lib.ListN.{length, drop}
-use Rattle.access.specs.Told.{listed}
+use Rattle.std.proofs.Common.{◌≡◌, ◌++◌, ◌≤◌, ◌<◌, length, ◌+◌, ◌*◌, ◌%◌}
+use Rattle.std.specs.Slice.Iter.{chunks_rest, chunks_size}
 use Rattle.access.specs.Groups.{first_group}
 use Rattle.access.proofs.group_counters.Given as goal
 
-abbrev pub invariant-loop-at : goal.invariant-loop-at
-invariant-loop-at l = (l.at + 3 ≤ length l.part) ×
-    ((length l.part + 1 - l.at) % 4 ≡ 0) ×
-    (4 * l.counters.count ≤ l.at) ×
-    (first_group (drop l.start l.part) ≡ listed l.counters ++ first_group (drop l.at l.part))
-
-abbrev pub decreases-loop-at : goal.decreases-loop-at
-decreases-loop-at l = length l.part - l.at
+abbrev pub invariant-loop-condition : goal.invariant-loop-condition
+invariant-loop-condition l =
+    (goal.iterator-loop-condition).can_next l.condition-iterator
+    × (goal.iterator-loop-condition).is_finite l.condition-iterator
+    × (chunks_size l.condition-iterator ≡ 4)
+    × (0 < length (chunks_rest l.condition-iterator) → length (chunks_rest l.condition-iterator) % 4 ≡ 3)
+    × (4 * length l.counters + length (chunks_rest l.condition-iterator) ≤ 27)
+    × (first_group l.part ≡ l.counters ++ first_group (chunks_rest l.condition-iterator))

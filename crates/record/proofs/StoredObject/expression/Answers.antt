@@ -1,6 +1,6 @@
 -- The slot of a record that stands there holds the expression.
 use native.Mathlib.Omega.{arith}
-use Rattle.record.proofs.Parts.{told_allowed, slot_fits, slot_lent}
+use Rattle.record.proofs.Parts.{told_allowed, slot_fits, slot_lent, slot_formed}
 use Rattle.record.proofs.StoredObject.expression.Goals as goal
 
 pub overflow_add-self-inside : goal.overflow_add-self-inside
@@ -10,4 +10,4 @@ pub counted-requires : goal.counted-requires
 counted-requires c = search slot_fits
 
 pub returns : goal.returns
-returns c = record { bytes = search slot_lent; allowed = told_allowed _ _ _ c.self.view_is c.self.invariant }
+returns c = search (slot_lent, slot_formed, told_allowed)
