@@ -7,7 +7,7 @@ use Rattle.expression.proofs.Forms.{fits}
 use Rattle.expression.proofs.well_formed.Given as goal
 
 abbrev pub invariant-loop-at : goal.invariant-loop-at
-invariant-loop-at l = (l.at ≤ length l.part) × (1 ≤ l.groups) × (is_some (expression l.part) ≡ fits l.groups (drop l.at l.part))
+invariant-loop-at l = (l.at ≤ length l.part) × (is_some (expression l.part) ≡ fits l.groups (drop l.at l.part))
 
 abbrev pub decreases-loop-at : goal.decreases-loop-at
 decreases-loop-at l = length l.part - l.at
