@@ -1,13 +1,16 @@
 -- Expressions checked byte by byte, as the loop of `well_formed` does, and what that says of the rules' expressions.
-use Prim.Native.Nat.{ℕ, ◌+◌, ◌-◌, ◌≤◌, ◌<◌}
+use Prim.Native.Nat.{ℕ, zero, suc, ◌*◌, ◌/◌, ◌+◌, ◌-◌, ◌≤◌, ◌<◌}
 use mathlib.Core.Path.{◌≡◌, refl, sym, ap, ◌∙◌}
 use mathlib.Core.Bool.{Bool, true, false, ◌&&◌, ◌||◌, false≢true, and-false}
 use mathlib.Core.List.{List, [], ◌∷◌, ◌++◌, append-nil}
 use borrow.Author.Tests.{eqb-true, le-leb, leb-true, ltb-true, lt-ltb}
 use native.Mathlib.Omega.{arith}
+use native.Mathlib.Nat.{add-zero, zero-add}
 use lib.Dec.{eqb, ltb}
-use lib.ListN.{length, get_or, drop, length-drop}
+use lib.ListN.{length, get_or, take, drop, length-drop}
+use lib.Seq.{drop-drop, get_or-take, get_or-drop}
 use Rattle.std.specs.Prelude.{Option, Some, None, if◌then◌else◌}
+use Rattle.std.specs.Simd.{first_chunks}
 use Rattle.std.proofs.lemmas.Option.{none-some}
 use Rattle.rules.specs.Basic.{all, same, is_some}
 use Rattle.rules.specs.Expression.{slot_size, Condition, Group, just, ◌and◌, Groups, only, ◌or◌, Expression, always, never, when}
@@ -62,6 +65,43 @@ module _ (w : Bool) (s : List ℕ) (g i : ℕ) (inv : w ≡ fits g (drop i s)) w
 
   pub fits_none : length s ≤ i + 3 → (length s - i ≡ 3 → ⊥) → false ≡ w
   fits_none h n = sym (inv ∙ fits_short g (drop i s) (rw length-drop (omega arith)))
+
+-- the loop goes over pieces of four bytes
+piece : (s : List ℕ) (n i : ℕ) → i < n → get_or (first_chunks 4 n s) i [] ≡ take 4 (drop (4 * i) s)
+piece s zero i h = absurd (omega arith)
+piece s (suc n) zero h = refl
+piece s (suc n) (suc i) h =
+    let past : 4 + 4 * i ≡ 4 * suc i = omega arith in
+    piece (drop 4 s) n i (omega arith) ∙ ap (take 4) (drop-drop (4 * i) 4 s ∙ ap (λ (k : ℕ). drop k s) past)
+
+module _ (w : Bool) (s : List ℕ) (ps : List (List ℕ)) (g i : ℕ) (inv : w ≡ fits g (drop (4 * i) s)) (e : ps ≡ first_chunks 4 (length s / 4) s)
+    (n : length ps ≡ length s / 4) where
+  in_piece : i < length ps → (j : ℕ) → j < 4 → get_or (get_or ps i []) j 0 ≡ get_or s (4 * i + j) 0
+  in_piece h j k = rw (e, piece s (length s / 4) i (omega arith), get_or-take 4 (drop (4 * i) s) j 0 k) (get_or-drop (4 * i) s j 0)
+
+  piece_condition : i < length ps → condition_at 0 (get_or ps i []) ≡ condition_at (4 * i) s
+  unfolding condition_at
+  piece_condition h = rw (in_piece h 0 (omega arith), in_piece h 1 (omega arith), in_piece h 2 (omega arith)) (simp add-zero)
+
+  pub piece_stops : i < length ps → condition_allowed (condition_at 0 (get_or ps i [])) ≡ false → false ≡ w
+  piece_stops h f = fits_stops w s g (4 * i) inv (omega arith) (rw (piece_condition h) at f)
+
+  pub piece_ends : i < length ps → groups_after (get_or (get_or ps i []) 3 0) g ≡ None → false ≡ w
+  piece_ends h f = fits_ends w s g (4 * i) inv (omega arith) (rw (in_piece h 3 (omega arith)) at f)
+
+  pub piece_on : (left : ℕ) → i < length ps → condition_allowed (condition_at 0 (get_or ps i [])) ≡ true →
+      groups_after (get_or (get_or ps i []) 3 0) g ≡ Some left → w ≡ fits left (drop (4 * (i + 1)) s)
+  piece_on left h f k =
+      let past : 4 * (i + 1) ≡ 4 * i + 4 = omega arith in
+      rw past (fits_on w s g (4 * i) inv left (omega arith) (rw (piece_condition h) at f) (rw (in_piece h 3 (omega arith)) at k))
+
+  pub last_piece : (r : Bool) (t : List ℕ) → i ≤ length ps → length ps ≤ i → t ≡ drop (length s / 4 * 4) s → length t ≡ 3 →
+      r ≡ condition_allowed (condition_at 0 t) → r ≡ w
+  unfolding condition_at
+  last_piece r t h k f l q =
+      let past : length s / 4 * 4 ≡ 4 * i = omega arith in
+      let three : length s - 4 * i ≡ 3 = omega (arith, length-drop (length s / 4 * 4) s, ap length f) in
+      fits_last w s g (4 * i) inv r three (q ∙ rw (f, past) (simp (get_or-drop, add-zero, zero-add)))
 
 -- what fits is the bytes of the groups that are read from it
 record Joined (g : ℕ) (gs : Groups) (s : List ℕ) : Type 0 where
@@ -196,4 +236,4 @@ well_formed_one r (x ∷ []) l e = e
 well_formed_one r (x ∷ y ∷ s) l e = absurd (omega arith)
 
 -- what the code of `well_formed` comes to
-pub ruleset forms = (well_formed_one, well_formed_long, well_formed_joined, fits_stops, fits_ends, fits_on, fits_last, fits_none)
+pub ruleset forms = (well_formed_one, well_formed_long, well_formed_joined, piece_stops, piece_ends, piece_on, last_piece, fits_none)

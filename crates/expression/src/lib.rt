@@ -101,17 +101,16 @@ pub fn well_formed(part: &[u8]) -> bool
     if LONGEST < part.len() {
         return false;
     }
-    let mut at = 0;
+    let (joined, last) = part.as_chunks::<4>();
     let mut groups = GROUPS;
-    while at + 3 < part.len() {
-        if !condition_allowed(part, at) {
+    for condition in joined {
+        if !condition_allowed(condition, 0) {
             return false;
         }
-        let Some(left) = groups_after(part[at + 3], groups) else {
+        let Some(left) = groups_after(condition[3], groups) else {
             return false;
         };
         groups = left;
-        at += 4;
     }
-    part.len() - at == 3 && condition_allowed(part, at)
+    last.len() == 3 && condition_allowed(last, 0)
 }
