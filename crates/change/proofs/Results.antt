@@ -5,13 +5,13 @@ use mathlib.Core.List.{List, [], ◌∷◌, ◌++◌}
 use mathlib.Core.Path.{◌≡◌, sym, ap, ◌∙◌}
 use native.Mathlib.Omega.{arith}
 use native.Mathlib.Nat.{add-zero, add_assoc}
-use lib.ListN.{length, take, drop, length-take, length-drop, length-replicate}
+use lib.ListN.{length, set, take, drop, length-take, length-drop, length-replicate}
 use lib.Seq.{take_at}
 use Rattle.rules.specs.Basic.{zeros, little_endian, is_some}
 use Rattle.rules.specs.declared.Direction.{Direction}
 use Rattle.rules.specs.declared.Slot.{Slot}
 use Rattle.rules.specs.Expression.{expression, read_expression}
-use Rattle.rules.specs.Object.{used, is_counter, direction, counter_size, object_allowed, with_content}
+use Rattle.rules.specs.Object.{Object, used, is_counter, direction, counter_size, object_allowed, with_content}
 use Rattle.rules.specs.Counter.{after_count}
 use Rattle.rules.specs.Layout.{slot_size, head_size, record_size, slot_at, slot_of, slot, record_bytes}
 use Rattle.rules.specs.Operation.{put_at}
@@ -24,6 +24,7 @@ use Rattle.primitives.specs.Bytes.{over}
 use Rattle.primitives.proofs.Over.{over_length}
 use Rattle.record.specs.Places.{object_at, Stored, with_record}
 use Rattle.record.proofs.Standing.{standing, stored_counter, data_here, slot_in_head}
+use Rattle.record.proofs.Slots.{set_over}
 use Rattle.change.specs.Change.{counted_at, with_lcso, with_expression}
 use Rattle.change.proofs.Inside.{over_inside, lent_over, lent_whole}
 use Rattle.change.proofs.Zeros.{padded, put_padded, put_zeroed, over_padded, padded_full}
@@ -44,9 +45,9 @@ module _ (p : ℕ) (b : List ℕ) (s : Stored p b) where
       let same : b ≡ over p r b = sym (unfold with_record in unchanged p b s) in
       ap (over (p + k) y) same ∙ over_inside p k y r b (omega (arith, s.inside)) (omega (arith, long))
 
-  pub set_lcso_by : (st : ℕ) (r : List ℕ) → r ≡ over (p + 10) (st ∷ []) b → r ≡ with_record p (with_lcso st (object_at p b)) b
+  pub set_lcso_by : (st : ℕ) (r : List ℕ) → r ≡ set b (p + 10) st → r ≡ with_record p (with_lcso st (object_at p b)) b
   unfolding with_record
-  set_lcso_by st r e = e ∙ put_into 10 (st ∷ []) (omega arith) ∙ ap (λ x. over p x b) (lcso_record (object_at p b) ok st)
+  set_lcso_by st r e = e ∙ set_over b (p + 10) st (omega (arith, s.inside)) ∙ put_into 10 (st ∷ []) (omega arith) ∙ ap (λ x. over p x b) (lcso_record (object_at p b) ok st)
 
   module _ (t : Slot) (v : List ℕ) (h : is_some (expression v) ≡ true) where
     pub value_small : length v < slot_size
@@ -95,13 +96,13 @@ module _ (p : ℕ) (b : List ℕ) (s : Stored p b) where
 
   -- the data part, which ends at e, was lent
   module _ (e : ℕ) (end : e ≡ p + head_size + (object_at p b).maximum) where
-    pub write_by : (k u v : ℕ) (src b1 d : List ℕ) → k + length src ≤ (object_at p b).maximum → u ≡ used (object_at p b) → v ≡ max u (k + length src) →
+    pub write_by : (o : Object) (k u v : ℕ) (src b1 d : List ℕ) → o ≡ object_at p b → k + length src ≤ (object_at p b).maximum → u ≡ used o → v ≡ max u (k + length src) →
         b1 ≡ over (p + 8) (little_endian v) b → d ≡ over k src (take (e - (p + head_size)) (drop (p + head_size) b1)) →
         take (p + head_size) b1 ++ (d ++ drop (e - (p + head_size)) (drop (p + head_size) b1)) ≡
         with_record p (with_content (put_at k src (object_at p b).content) (object_at p b)) b
-    write_by k u v src b1 d h eu ev e1 ed =
+    write_by was k u v src b1 d eo h eu ev e1 ed =
         let o = object_at p b in
-        let c : v ≡ length (put_at k src o.content) = omega (arith, put_used k src o.content) in
+        let c : v ≡ length (put_at k src o.content) = omega (arith, eu, ap used eo, put_used k src o.content) in
         lent_over (p + head_size) k (e - (p + head_size)) src d b1 (omega (arith, s.inside, ap length e1, counted_length v)) (omega arith) ed ∙
         ap (over (p + head_size + k) src) e1 ∙ data_by v k src _ c h (put_padded k o.maximum src o.content h s.used_fits)
 
@@ -134,11 +135,12 @@ module _ (p : ℕ) (b : List ℕ) (s : Stored p b) where
       pub counter_long : length (take (e - (p + head_size)) (drop (p + head_size) b)) ≡ counter_size
       counter_long = ap length counter_lent ∙ in_use
 
-      pub count_by : (way : Direction) (step : ℕ) (d : List ℕ) → way ≡ direction (object_at p b).kind →
+      pub count_by : (o : Object) (way : Direction) (step : ℕ) (d : List ℕ) → o ≡ object_at p b → way ≡ direction o.kind →
           d ≡ after_count way step (take (e - (p + head_size)) (drop (p + head_size) b)) →
           take (p + head_size) b ++ (d ++ drop (e - (p + head_size)) (drop (p + head_size) b)) ≡ counted_at p step b
-      count_by way step d ew ed =
+      count_by was way step d eo told ed =
           let o = object_at p b in
+          let ew : way ≡ direction o.kind = told ∙ ap (λ x. direction x.kind) eo in
           let new = after_count (direction o.kind) step o.content in
           let counted : d ≡ new = ed ∙ (λ i. after_count (ew i) step (counter_lent i)) in
           let size : length new ≡ counter_size = count_length (direction o.kind) step o.content in_use in

@@ -1,18 +1,15 @@
--- A counter's bytes: what is read after a count, and what the code leaves.
+-- A counter's bytes: what is read after a count.
 use Prim.Native.Nat.{ℕ, ◌<◌}
 use mathlib.Core.Path.{◌≡◌, refl}
 use mathlib.Core.List.{List, [], ◌∷◌, ◌++◌}
 use native.Mathlib.Omega.{arith}
-use lib.Dec.{eqb}
 use lib.ListN.{length, drop}
 use Rattle.rules.specs.declared.Direction.{Direction}
 use Rattle.rules.specs.Basic.{big_endian_4, big_endian_4_at}
 use Rattle.rules.specs.Object.{counter_size}
-use Rattle.rules.specs.Counter.{counted, value, threshold, exhausted, after_count}
+use Rattle.rules.specs.Counter.{counted, value, threshold, after_count}
 use Rattle.laws.proofs.Fitting.{count_length}
-use Rattle.primitives.specs.Bytes.{over}
-use Rattle.counter.specs.Gaps.{gap}
-use Rattle.counter.proofs.Counting.{past_by, count_fits}
+use Rattle.counter.proofs.Counting.{count_fits}
 
 -- above every number of four bytes
 abbrev pub four_bytes : ℕ
@@ -46,14 +43,3 @@ count_leaves d s b l v t =
       same_threshold = unfold after_count in threshold_kept _ b l;
       new_value = unfold after_count in value_put _ b (count_fits four_bytes d (value b) (threshold b) s v t);
     }
-
--- what the code answers and leaves ---------------------------------------------------------------------------------------
-
-module _ (d : Direction) (b : List ℕ) (v t : ℕ) (p : v ≡ value b) (q : t ≡ threshold b) where
-  pub exhausted_by : (g : ℕ) → g ≡ gap d v t → eqb g 0 ≡ exhausted d b
-  unfolding exhausted
-  exhausted_by g e = rw (e, ← p, ← q) (past_by d v t)
-
-  pub count_by : (s w : ℕ) (r : List ℕ) → w ≡ counted d v t s → r ≡ over 0 (big_endian_4 w) b → r ≡ after_count d s b
-  unfolding after_count over big_endian_4
-  count_by s w r e f = rw (← p, ← q, ← e) f

@@ -1,12 +1,10 @@
 -- The law of counting, once for both directions, and what the code's arms say of the rule.
-use Prim.Native.Nat.{ℕ, ◌+◌, ◌-◌, ◌≤◌, ◌<◌, min, max}
-use mathlib.Core.Path.{◌≡◌, refl, sym, ◌∙◌}
-use mathlib.Core.Bool.{Bool, true, false, false≢true}
-use borrow.Author.Tests.{le-leb, leb-true, leb-false, eq-eqb, ne_eqb}
+use Prim.Native.Nat.{ℕ, ◌+◌, ◌-◌, ◌<◌, min, max}
+use mathlib.Core.Path.{◌≡◌, ◌∙◌}
+use mathlib.Core.Bool.{true}
+use borrow.Author.Tests.{le-leb, leb-true, leb-false}
 use native.Mathlib.Omega.{arith}
-use mir.Val
-use mir.Syntax.{w32}
-use lib.Dec.{leb, eqb}
+use lib.Dec.{leb}
 use Rattle.rules.specs.declared.Direction.{Direction}
 use Rattle.rules.specs.declared.Direction.TheVariants.{Up, Down}
 use Rattle.rules.specs.Counter.{moved, at_or_past, counted}
@@ -23,14 +21,6 @@ pub no_gap_past : (d : Direction) (v t : ℕ) → gap d v t ≡ 0 → at_or_past
 unfolding at_or_past gap
 no_gap_past Up v t h = le-leb t v (omega arith)
 no_gap_past Down v t h = le-leb v t (omega arith)
-
--- the two as one test
-pub past_by : (d : Direction) (v t : ℕ) → eqb (gap d v t) 0 ≡ at_or_past d v t
-past_by d v t = go (at_or_past d v t) refl
-  where
-    go : (b : Bool) → at_or_past d v t ≡ b → eqb (gap d v t) 0 ≡ at_or_past d v t
-    go true e = eq-eqb (gap d v t) 0 (past_no_gap d v t e) ∙ sym e
-    go false e = ne_eqb (gap d v t) 0 (λ h. false≢true (sym e ∙ no_gap_past d v t h)) ∙ sym e
 
 -- a count up ends at the smaller of value plus step and threshold
 pub counted_up : (v t s : ℕ) → counted Up v t s ≡ min (v + s) t
@@ -66,44 +56,3 @@ count_only Down v t s w m = rw counted_down (down_ends v t s w (m.nearer ∙ dow
 pub count_fits : (n : ℕ) (d : Direction) (v t s : ℕ) → v < n → t < n → counted d v t s < n
 count_fits n Up v t s h k = rw counted_up (omega arith)
 count_fits n Down v t s h k = rw counted_down (omega arith)
-
--- the arms of `gap`, and the ways out of `counted` --------------------------------------------------------------------
-
-pub gap_up : (d : Direction) (v t r : ℕ) → d ≡ Up → r ≡ t - v → r ≡ gap d v t
-unfolding gap
-gap_up d v t r e f = rw e f
-
-pub gap_down : (d : Direction) (v t r : ℕ) → d ≡ Down → r ≡ v - t → r ≡ gap d v t
-unfolding gap
-gap_down d v t r e f = rw e f
-
-module _ (d : Direction) (v t s g : ℕ) (e : g ≡ gap d v t) where
-  pub reaches : g ≤ s → t ≡ counted d v t s
-  unfolding gap
-  reaches h = go d e
-    where
-      go : (d : Direction) → g ≡ gap d v t → t ≡ counted d v t s
-      go Up e = rw counted_up (omega arith)
-      go Down e = rw counted_down (omega arith)
-
-  module _ (h : s < g) where
-    up_below : d ≡ Up → v + s < t
-    unfolding gap
-    up_below u = let k : g ≡ t - v = rw u at e in omega arith
-
-    -- no sum wraps: it stays below the threshold
-    pub up_fits : mir.Val.Fits w32 t → d ≡ Up → mir.Val.Fits w32 (v + s)
-    up_fits f u = record { fits = omega (arith, f.fits, up_below u) }
-
-    pub goes_up : d ≡ Up → v + s ≡ counted d v t s
-    goes_up u = let k = up_below u in rw (u, counted_up) (omega arith)
-
-    down_above : d ≡ Down → s + t < v
-    unfolding gap
-    down_above u = let k : g ≡ v - t = rw u at e in omega arith
-
-    pub down_fits : d ≡ Down → s ≤ v
-    down_fits u = omega (arith, down_above u)
-
-    pub goes_down : d ≡ Down → v - s ≡ counted d v t s
-    goes_down u = let k = down_above u in rw (u, counted_down) (omega arith)

@@ -1,10 +1,9 @@
 // A counter in its 8 bytes, the value and then the threshold: whether it is exhausted, and a count.
 #![tactic(auto)]
 
-ghost use Rattle.std.specs.Prelude.{◌≡◌, ◌-◌, length};
+ghost use Rattle.std.specs.Prelude.{◌≡◌, length};
 ghost use Rattle.rules.specs.Object.{counter_size};
 ghost use Rattle.rules.specs.Counter.{counted, value, threshold, exhausted, after_count};
-ghost use Rattle.counter.specs.Gaps.{gap};
 
 use rules::Direction;
 
@@ -16,6 +15,7 @@ const VALUE: usize = 0;
 
 const THRESHOLD: usize = 4;
 
+#[tactic(auto, unfolding(rules::specs::Counter::value))]
 fn value(part: &[u8]) -> u32
     requires { length part.now ≡ counter_size }
     ensures { result ≡ value part.now }
@@ -23,6 +23,7 @@ fn value(part: &[u8]) -> u32
     primitives::big_endian_4_at(part, VALUE)
 }
 
+#[tactic(auto, unfolding(rules::specs::Counter::threshold))]
 fn threshold(part: &[u8]) -> u32
     requires { length part.now ≡ counter_size }
     ensures { result ≡ threshold part.now }
@@ -30,48 +31,31 @@ fn threshold(part: &[u8]) -> u32
     primitives::big_endian_4_at(part, THRESHOLD)
 }
 
-// What a is above b, or 0.
-fn above(a: u32, b: u32) -> u32
-    ensures { result ≡ a - b }
-{
-    if a < b {
-        return 0;
-    }
-    a - b
-}
-
-// How far the value is from its threshold; 0 at or past it.
-fn gap(direction: Direction, value: u32, threshold: u32) -> u32
-    ensures { result ≡ gap direction value threshold }
-{
-    match direction {
-        Direction::Up => above(threshold, value),
-        Direction::Down => above(value, threshold),
-    }
-}
-
-// The step is compared with the gap: below it, neither direction wraps.
+// A sum above the largest number ends at the threshold all the same.
+#[tactic(auto, using(crate::proofs::Counting::counted_up, crate::proofs::Counting::counted_down))]
 fn counted(direction: Direction, value: u32, threshold: u32, step: u32) -> u32
     ensures { result ≡ counted direction value threshold step }
 {
-    if gap(direction, value, threshold) <= step {
-        return threshold;
-    }
     match direction {
-        Direction::Up => value + step,
-        Direction::Down => value - step,
+        Direction::Up => value.saturating_add(step).min(threshold),
+        Direction::Down => value.saturating_sub(step).max(threshold),
     }
 }
 
 // Whether the value is at or past its threshold already.
+#[tactic(auto, unfolding(rules::specs::Counter::exhausted, rules::specs::Counter::at_or_past))]
 pub fn exhausted(part: &[u8], direction: Direction) -> bool
     requires { length part.now ≡ counter_size }
     ensures { result ≡ exhausted direction part.now }
 {
-    gap(direction, value(part), threshold(part)) == 0
+    match direction {
+        Direction::Up => threshold(part) <= value(part),
+        Direction::Down => value(part) <= threshold(part),
+    }
 }
 
 // Counts by a step: the threshold stays.
+#[tactic(auto, unfolding(rules::specs::Basic::big_endian_4, rules::specs::Counter::after_count, primitives::specs::Bytes::over))]
 pub fn count(part: &mut [u8], direction: Direction, step: u8)
     requires { length part.old ≡ counter_size }
     ensures { part.new ≡ after_count direction step part.old }

@@ -1,8 +1,8 @@
 // Life cycle states and the form of access expressions in their bytes.
 #![tactic(auto)]
 
-ghost use Rattle.std.specs.Prelude.{◌≡◌, [], ◌∷◌, ◌+◌, ◌≤◌, ◌<◌, length};
-ghost use Rattle.rules.specs.Basic.{among, is_some};
+ghost use Rattle.std.specs.Prelude.{◌≡◌, [], ◌∷◌, ◌+◌, ◌<◌, length};
+ghost use Rattle.rules.specs.Basic.{is_some};
 ghost use Rattle.rules.specs.Expression.{is_state, may_become, expression, condition_allowed};
 ghost use Rattle.expression.specs.Conditions.{condition_at, groups_after};
 
@@ -13,78 +13,85 @@ const GROUPS: usize = 3;
 
 pub const LONGEST: usize = 4 * CONDITIONS - 1;
 
+// The single bytes that are expressions.
+const ALWAYS: u8 = 0x00;
+
+const NEVER: u8 = 0xFF;
+
 // What a condition on a counter begins with; the counter's number follows.
 pub const COUNTER: u8 = 0x40;
 
+// What a condition on a state begins with: whose state it is. Then what the state is to a given one, which follows.
+pub const LCSG: u8 = 0x70;
+
+pub const LCSA: u8 = 0xE0;
+
+pub const LCSO: u8 = 0xE1;
+
+pub const EQUAL: u8 = 0xFA;
+
+pub const GREATER: u8 = 0xFB;
+
+pub const LESS: u8 = 0xFC;
+
+// What joins two conditions.
+pub const AND: u8 = 0xFD;
+
+pub const OR: u8 = 0xFE;
+
 // Whether the byte is a life cycle state.
+#[tactic(auto, unfolding(rules::specs::Basic::among, rules::specs::Expression::is_state))]
 pub fn is_state(b: u8) -> bool
     ensures { result ≡ is_state b }
 {
-    match b {
-        0x01 | 0x03 | 0x07 | 0x0F => true,
-        _ => false,
-    }
+    matches!(b, 0x01 | 0x03 | 0x07 | 0x0F)
 }
 
 // Whether a life cycle may go from its present state to the next.
+#[tactic(auto, unfolding(rules::specs::Expression::may_become))]
 pub fn may_become(present: u8, next: u8) -> bool
     ensures { result ≡ may_become present next }
 {
-    if !is_state(next) {
-        return false;
-    }
-    present <= next
-}
-
-// Whether the byte is one of three.
-fn is_one_of(b: u8, x: u8, y: u8, z: u8) -> bool
-    ensures { result ≡ among (x ∷ y ∷ z ∷ []) b }
-{
-    if b == x {
-        return true;
-    }
-    if b == y {
-        return true;
-    }
-    b == z
+    is_state(next) && present <= next
 }
 
 // Whether the condition of the three bytes at `at` is well formed.
+#[tactic(auto, unfolding(rules::specs::Basic::all, rules::specs::Basic::among, rules::specs::Expression::names_counter, rules::specs::Expression::condition_allowed, crate::specs::Conditions::condition_at))]
 pub fn condition_allowed(part: &[u8], at: usize) -> bool
     requires { at + 2 < length part.now }
     ensures { result ≡ condition_allowed (condition_at at part.now) }
 {
-    if !is_one_of(part[at], 0x70, 0xE0, 0xE1) {
-        return part[at] == COUNTER;
+    match part[at] {
+        COUNTER => true,
+        LCSG | LCSA | LCSO => {
+            matches!(part[at + 1], EQUAL | GREATER | LESS) && is_state(part[at + 2])
+        }
+        _ => false,
     }
-    if !is_one_of(part[at + 1], 0xFA, 0xFB, 0xFC) {
-        return false;
-    }
-    is_state(part[at + 2])
 }
 
-// How many groups may still come, the present one counted, after a joining byte; 0 where the byte does not join.
-fn groups_after(joint: u8, groups: usize) -> usize
-    requires { 1 ≤ groups }
+// How many groups may still come, the present one counted, behind a byte that joins; none where it does not.
+#[tactic(auto, unfolding(crate::specs::Conditions::groups_after))]
+fn groups_after(joint: u8, groups: usize) -> Option<usize>
     ensures { result ≡ groups_after joint groups }
 {
-    if joint == 0xFD {
-        return groups;
+    match joint {
+        AND => Some(groups),
+        OR if 1 < groups => Some(groups - 1),
+        _ => None,
     }
-    if joint == 0xFE {
-        return groups - 1;
-    }
-    0
 }
 
-// Whether one byte is an expression: always or never.
+// Whether one byte is an expression.
+#[tactic(auto, using(crate::proofs::Forms::single_by))]
 pub fn single(b: u8) -> bool
     ensures { result ≡ is_some (expression (b ∷ [])) }
 {
-    primitives::or(b == 0x00, b == 0xFF)
+    matches!(b, ALWAYS | NEVER)
 }
 
 // Whether these bytes are an access expression.
+#[tactic(auto, using(crate::proofs::Forms::forms))]
 pub fn well_formed(part: &[u8]) -> bool
     ensures { result ≡ is_some (expression part.now) }
 {
@@ -94,20 +101,16 @@ pub fn well_formed(part: &[u8]) -> bool
     if LONGEST < part.len() {
         return false;
     }
-    let mut at: usize = 0;
-    let mut groups: usize = GROUPS;
-    while at + 3 < part.len() {
-        if !condition_allowed(part, at) {
+    let (joined, last) = part.as_chunks::<4>();
+    let mut groups = GROUPS;
+    for condition in joined {
+        if !condition_allowed(condition, 0) {
             return false;
         }
-        groups = groups_after(part[at + 3], groups);
-        if groups < 1 {
+        let Some(left) = groups_after(condition[3], groups) else {
             return false;
-        }
-        at += 4;
+        };
+        groups = left;
     }
-    if part.len() - at != 3 {
-        return false;
-    }
-    condition_allowed(part, at)
+    last.len() == 3 && condition_allowed(last, 0)
 }

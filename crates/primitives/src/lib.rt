@@ -1,18 +1,17 @@
 // Numbers in two bytes and in four, copies and zeros in lent slices, and bools joined.
 #![tactic(auto)]
 
-ghost use Rattle.std.specs.Prelude.{◌≡◌, ◌++◌, ◌&&◌, ◌||◌, ◌+◌, ◌<◌, ◌≤◌, min, max, length, drop};
-ghost use Rattle.rules.specs.Basic.{little_endian_at, big_endian_at, big_endian_4, big_endian_4_at, little_endian_4, little_endian_4_at, zeros};
+ghost use Rattle.std.specs.Prelude.{◌≡◌, ◌&&◌, ◌||◌, ◌+◌, ◌<◌, ◌≤◌, min, max, length};
+ghost use Rattle.rules.specs.Basic.{little_endian, little_endian_at, big_endian, big_endian_at, big_endian_4, big_endian_4_at, little_endian_4, little_endian_4_at, zeros};
 ghost use Rattle.primitives.specs.Bytes.{over, all_zero};
 
 // The number in two bytes, least significant first.
+#[tactic(auto, unfolding(rules::specs::Basic::little_endian_at))]
 pub fn little_endian_at(s: &[u8], at: usize) -> u16
     requires { at + 1 < length s.now }
     ensures { result ≡ little_endian_at at s.now }
 {
-    let low = s[at] as u16;
-    let high = s[at + 1] as u16;
-    low + 256 * high
+    u16::from_le_bytes([s[at], s[at + 1]])
 }
 
 // The number in two bytes, most significant first.
@@ -20,29 +19,25 @@ pub fn big_endian_at(s: &[u8], at: usize) -> u16
     requires { at + 1 < length s.now }
     ensures { result ≡ big_endian_at at s.now }
 {
-    let high = s[at] as u16;
-    let low = s[at + 1] as u16;
-    256 * high + low
+    u16::from_be_bytes([s[at], s[at + 1]])
 }
 
 // The number in four bytes, most significant first.
+#[tactic(auto, unfolding(rules::specs::Basic::big_endian_4_at))]
 pub fn big_endian_4_at(s: &[u8], at: usize) -> u32
     requires { at + 3 < length s.now }
     ensures { result ≡ big_endian_4_at at s.now }
 {
-    let high = big_endian_at(s, at) as u32;
-    let low = big_endian_at(s, at + 2) as u32;
-    0x10000 * high + low
+    u32::from_be_bytes([s[at], s[at + 1], s[at + 2], s[at + 3]])
 }
 
 // The number in four bytes, least significant first.
+#[tactic(auto, unfolding(rules::specs::Basic::little_endian_at, rules::specs::Basic::little_endian_4_at))]
 pub fn little_endian_4_at(s: &[u8], at: usize) -> u32
     requires { at + 3 < length s.now }
     ensures { result ≡ little_endian_4_at at s.now }
 {
-    let low = little_endian_at(s, at) as u32;
-    let high = little_endian_at(s, at + 2) as u32;
-    low + 0x10000 * high
+    u32::from_le_bytes([s[at], s[at + 1], s[at + 2], s[at + 3]])
 }
 
 pub fn max(a: usize, b: usize) -> usize
@@ -63,77 +58,63 @@ pub fn min(a: usize, b: usize) -> usize
     b
 }
 
-// Copies all of src to the front of dst.
-fn copy_in(dst: &mut [u8], src: &[u8])
-    requires { length src.now ≤ length dst.old }
-    ensures { dst.new ≡ src.now ++ drop (length src.now) dst.old }
-{
-    let mut i = 0;
-    while i < src.len() {
-        dst[i] = src[i];
-        i += 1;
-    }
-}
-
-// Puts src at a place of dst: that part is lent on.
+// Puts src at a place of dst.
+#[tactic(auto, unfolding(crate::specs::Bytes::over))]
 pub fn put(dst: &mut [u8], at: usize, src: &[u8])
     requires { at + length src.now ≤ length dst.old }
     ensures { dst.new ≡ over at src.now dst.old }
 {
-    let e = at + src.len();
-    copy_in(&mut dst[at..e], src);
+    dst[at..at + src.len()].copy_from_slice(src);
+}
+
+// Puts a number in two bytes, most significant first.
+pub fn put_big_endian(dst: &mut [u8], at: usize, n: u16)
+    requires { at + 2 ≤ length dst.old }
+    ensures { dst.new ≡ over at (big_endian n) dst.old }
+{
+    put(dst, at, &n.to_be_bytes());
+}
+
+// Puts a number in two bytes, least significant first.
+pub fn put_little_endian(dst: &mut [u8], at: usize, n: u16)
+    requires { at + 2 ≤ length dst.old }
+    ensures { dst.new ≡ over at (little_endian n) dst.old }
+{
+    put(dst, at, &n.to_le_bytes());
 }
 
 // Puts a number in four bytes, most significant first.
+#[tactic(auto, unfolding(rules::specs::Basic::big_endian_4))]
 pub fn put_big_endian_4(dst: &mut [u8], at: usize, n: u32)
     requires { at + 3 < length dst.old }
     ensures { dst.new ≡ over at (big_endian_4 n) dst.old }
 {
-    let high = n / 0x10000;
-    let low = n % 0x10000;
-    let bytes = [
-        (high / 256) as u8,
-        (high % 256) as u8,
-        (low / 256) as u8,
-        (low % 256) as u8,
-    ];
-    put(dst, at, &bytes);
+    put(dst, at, &n.to_be_bytes());
 }
 
 // Puts a number in four bytes, least significant first.
+#[tactic(auto, unfolding(rules::specs::Basic::little_endian_4))]
 pub fn put_little_endian_4(dst: &mut [u8], at: usize, n: u32)
     requires { at + 3 < length dst.old }
     ensures { dst.new ≡ over at (little_endian_4 n) dst.old }
 {
-    let low = n % 0x10000;
-    let high = n / 0x10000;
-    let bytes = [
-        (low % 256) as u8,
-        (low / 256) as u8,
-        (high % 256) as u8,
-        (high / 256) as u8,
-    ];
-    put(dst, at, &bytes);
+    put(dst, at, &n.to_le_bytes());
 }
 
 // Zeros all of dst.
 pub fn clear(dst: &mut [u8])
     ensures { dst.new ≡ zeros (length dst.old) }
 {
-    let mut i = 0;
-    while i < dst.len() {
-        dst[i] = 0;
-        i += 1;
-    }
+    dst.fill(0);
 }
 
-// Puts n zeros at a place of dst: that part is lent on.
+// Puts n zeros at a place of dst.
+#[tactic(auto, unfolding(crate::specs::Bytes::over))]
 pub fn put_zeros(dst: &mut [u8], at: usize, n: usize)
     requires { at + n ≤ length dst.old }
     ensures { dst.new ≡ over at (zeros n) dst.old }
 {
-    let e = at + n;
-    clear(&mut dst[at..e]);
+    dst[at..at + n].fill(0);
 }
 
 // Zeros all of dst but src, which is put at a place of it.
@@ -164,14 +145,13 @@ pub fn or(a: bool, b: bool) -> bool
 }
 
 // An or of all bytes with no early return, so that the loop is vectorised.
+#[tactic(auto, using(crate::proofs::Zeros::zero_on, crate::proofs::Zeros::zero_end))]
 pub fn all_zero(s: &[u8]) -> bool
     ensures { result ≡ all_zero s.now }
 {
-    let mut all: u8 = 0;
-    let mut i = 0;
-    while i < s.len() {
-        all = all | s[i];
-        i += 1;
+    let mut all = 0;
+    for byte in s {
+        all |= *byte;
     }
     all == 0
 }

@@ -4,13 +4,14 @@ use mathlib.Core.Bool.{Bool, true, false, not, ◌&&◌, false≢true}
 use mathlib.Core.List.{List, [], ◌∷◌, ◌++◌}
 use mathlib.Core.Path.{◌≡◌, refl, sym, ap, ◌∙◌}
 use native.Mathlib.Omega.{arith}
-use borrow.Author.Tests.{eq-eqb, eqb-true, lt-ltb, le-ltb, le-leb, lt-leb, not-true, not-false}
+use borrow.Author.Tests.{eq-eqb, eqb-true, lt-ltb, le-ltb, le-leb, lt-leb, leb-true, leb-false, not-true, not-false}
 use lib.Dec.{eqb, leb, ltb}
 use lib.ListN.{length, drop, length-drop, drop_of_length-le}
 use Rattle.expression.proofs.Tests.{same_test}
 use Rattle.expression.proofs.Numbers.{Bytes, four_small, four_back}
 use Rattle.rules.specs.Basic.{is_some, little_endian_at, little_endian_4, little_endian_4_at}
 use Rattle.rules.specs.Queue.{Fare, FareQueue, queue_head, fare_head, bodies_allowed, numbered_below, queue_allowed, fare_bytes, fares_bytes, queue_bytes, queue, queue_in, present_in}
+use Rattle.laws.proofs.Tests.{by_test}
 use Rattle.laws.proofs.Queues.{fares_size, queue_size, queue_length, next_first, fares_last, layout_sound, sound_layout}
 use Rattle.laws.proofs.QueueChanges.{allowed, is_allowed, present_between, bodies_parts, bodies_joined, numbers_parts, numbers_joined, none_bodies, none_numbered}
 use Rattle.queue.specs.Fares.{whole_fare, first_number}
@@ -94,22 +95,21 @@ module _ (r : Bool) (p n : ℕ) (b : List ℕ) (e : r ≡ whole_fare p n b) (t :
   stays z ez = omega (arith, there.least, there.fits)
 
 module _ (w : Bool) (n m p : ℕ) (b : List ℕ) (l : Left w n m (drop p b)) where
-  -- no fare is due any more
-  pub at_end : n ≤ m → m ≤ n → p ≤ length b → eqb p (length b) ≡ w
-  at_end h k i =
+  -- no fare is due any more; where the first number is past the next, bytes are left
+  pub at_end : m ≤ n → p ≤ length b → (m < n → p < length b) → eqb p (length b) ≡ w
+  at_end k i past =
       same_test (eqb p (length b)) w
-      (λ t. let e = eqb-true p (length b) t in l.enough (rw (drop_of_length-le b {i = p} (omega arith)) (no_more n m (omega arith))))
+      (λ t. let e = eqb-true p (length b) t in l.enough (rw (drop_of_length-le b {i = p} (omega arith)) (no_more n m (level e))))
       (λ t. let x = l.needed t in eq-eqb p (length b) (ended x x.fares refl))
     where
+      level : p ≡ length b → n ≡ m
+      level e = by_test (leb n m) (λ t. omega (arith, leb-true n m t)) (λ f. absurd (omega (arith, past (leb-false n m f))))
+
       ended : (x : Series n m (drop p b)) (fs : List Fare) → x.fares ≡ fs → p ≡ length b
       ended x [] e =
           let none : drop p b ≡ [] = x.bytes ∙ ap fares_bytes e ∙ (unfold fares_bytes in refl) in
           omega (arith, simp length-drop at (ap length none))
       ended x (f ∷ fs) e = absurd (omega (arith, x.count, ap (λ y. length y) e))
-
-  -- there cannot be fewer than none
-  past_next : m < n → false ≡ w
-  past_next h = refused w n m (drop p b) l (λ x. omega (arith, x.count))
 
   module _ (h : n < m) where
     pub no_fare : (r : Bool) → r ≡ whole_fare p n b → not r ≡ true → false ≡ w
@@ -183,9 +183,10 @@ module _ (b : List ℕ) where
             count = omega (arith, counted b q e ok);
           }
 
-  pub first_past : Bytes b → queue_head ≤ length b → (m : ℕ) → m ≡ little_endian_4_at 0 b → (n : ℕ) → n ≡ first_number b → m < n →
-      false ≡ is_some (queue b)
-  first_past bytes h m em n en l = past_next (is_some (queue b)) n m queue_head b (from_start bytes h m em n en) l
+  pub past_first : (m : ℕ) → m ≡ little_endian_4_at 0 b → (n : ℕ) → n ≡ first_number b → m < n → queue_head < length b
+  past_first m em n en l =
+      by_test (leb (queue_head + fare_head) (length b)) (λ t. omega (arith, leb-true (queue_head + fare_head) (length b) t))
+      (λ f. absurd (omega (arith, alone b (leb-false (queue_head + fare_head) (length b) f))))
 
 -- `is_present`: n is the first number, m the next, k the one asked ----------------------------------------------------------
 
@@ -200,8 +201,8 @@ module _ (b : List ℕ) (h : is_some (queue b) ≡ true) where
   first_is = let (e, ok) = sound_layout b h in counted b q e ok
 
   module _ (k n : ℕ) (en : n ≡ first_number b) where
-    pub below_first : k < n → false ≡ present_in q.fares k
-    below_first l = sym (present_is k ∙ rw (lt-leb q.next (k + length q.fares) (omega (arith, first_is))))
+    pub below_first : k < n → leb n k ≡ present_in q.fares k
+    below_first l = rw (lt-leb n k l) (sym (present_is k ∙ rw (lt-leb q.next (k + length q.fares) (omega (arith, first_is)))))
 
     pub from_first : n ≤ k → (m : ℕ) → m ≡ q.next → ltb k m ≡ present_in q.fares k
     from_first l m em = ap (ltb k) em ∙ sym (present_is k ∙ rw (le-leb q.next (k + length q.fares) (omega (arith, first_is))))

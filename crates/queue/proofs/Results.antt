@@ -1,21 +1,21 @@
 -- What `append` and `acknowledge` leave is the layout of the changed queue.
+use Rattle.std.specs.Prelude.{Option, Some, None}
 use Prim.Native.Nat.{ℕ, ◌+◌, ◌-◌, ◌<◌, ◌≤◌}
 use mathlib.Core.Bool.{true, false≢true}
 use mathlib.Core.List.{List, ◌++◌, append_assoc}
 use mathlib.Core.Path.{◌≡◌, refl, sym, ap, ◌∙◌}
 use native.Mathlib.Omega.{arith}
 use lib.ListN.{length, take, drop, length-append, length-drop, length-replicate, take-append-drop, replicate-append-replicate}
-use lib.Seq.{drop-append-le, length-take-le, take_at, take-take}
+use lib.Seq.{paste, drop-append-le, length-take-le, take_at, take-take}
 use Rattle.rules.specs.Basic.{zeros, little_endian_4, little_endian_4_at}
 use Rattle.primitives.specs.Bytes.{over}
 use Rattle.primitives.proofs.Over.{over_over}
 use Rattle.rules.specs.Queue.{FareQueue, fare, queue_head, fare_bytes, fares_bytes, queue_bytes, appended, present_in, acknowledged}
 use Rattle.laws.proofs.Queues.{queue_size, four_bytes, fare_length, queue_length, sound_layout}
 use Rattle.laws.proofs.QueueChanges.{appended_bytes}
-use Rattle.queue.specs.declared.FareEnd.{FareEnd}
-use Rattle.queue.specs.declared.FareEnd.TheVariants.{Behind, Absent}
 use Rattle.queue.specs.Ends.{fare_end}
 use Rattle.queue.specs.Held.{Holds, held}
+use Rattle.queue.proofs.Moves.{moved}
 use Rattle.queue.proofs.Ends.{absent_by, end_behind, end_is, acknowledged_bytes}
 
 -- a number in the place of the first one
@@ -85,14 +85,15 @@ module _ (u : ℕ) (b : List ℕ) (h : Holds u b) where
 
   -- `drop_front`: p1 is the data with the fares moved, p2 with zeros behind them -------------------------------------------------
 
-  module _ (e : ℕ) (inside : e ≤ u) (n : ℕ) (f : fare_end n q ≡ Behind e) where
+  module _ (e : ℕ) (inside : e ≤ u) (n : ℕ) (f : fare_end n q ≡ Some e) where
     pub kept_is : queue_head + (u - e) ≡ length (queue_bytes (acknowledged n q))
     kept_is = omega (arith, end_is n q e f, used_is, queue_length (acknowledged n q))
 
-    pub drop_by : (p1 p2 : List ℕ) → queue_head ≤ e → p1 ≡ over queue_head (take (u - e) (drop e b)) b →
+    pub drop_by : (p1 p2 : List ℕ) → queue_head ≤ e → p1 ≡ paste b queue_head (drop e b) (u - e) →
         p2 ≡ over (queue_head + (u - e)) (zeros (u - (queue_head + (u - e)))) p1 →
         p2 ≡ queue_bytes (acknowledged n q) ++ zeros (length b - (queue_head + (u - e)))
-    drop_by p1 p2 l e1 e2 =
+    drop_by p1 p2 l moving e2 =
+        let e1 : p1 ≡ over queue_head (take (u - e) (drop e b)) b = moving ∙ moved b queue_head e (u - e) (omega (arith, h.inside)) in
         let d = take (u - e) (drop e b) in
         let kept = queue_head + (u - e) in
         let z = zeros (u - kept) in
@@ -113,12 +114,12 @@ module _ (u : ℕ) (b : List ℕ) (h : Holds u b) where
   pub part_long : u ≡ length (take u b)
   part_long = sym (length-take-le u b h.inside)
 
-  module _ (n : ℕ) (x : FareEnd) (ex : x ≡ fare_end n q) where
-    pub not_absent : present_in q.fares n ≡ true → x ≡ Absent → ⊥
+  module _ (n : ℕ) (x : Option ℕ) (ex : x ≡ fare_end n q) where
+    pub not_absent : present_in q.fares n ≡ true → x ≡ None → ⊥
     not_absent p a = false≢true (absent_by n q x ex a ∙ p)
 
-    module _ (e : ℕ) (f : x ≡ Behind e) where
-      pub end_found : fare_end n q ≡ Behind e
+    module _ (e : ℕ) (f : x ≡ Some e) where
+      pub end_found : fare_end n q ≡ Some e
       end_found = sym ex ∙ f
 
       pub end_past_head : queue_head ≤ e

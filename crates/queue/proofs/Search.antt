@@ -7,11 +7,10 @@ use native.Mathlib.Omega.{arith}
 use borrow.Author.Tests.{eq-eqb, ne_eqb}
 use lib.Dec.{eqb}
 use lib.ListN.{length, drop, length-drop, drop_of_length-le}
-use Rattle.std.specs.Prelude.{if◌then◌else◌}
+use Rattle.std.specs.Prelude.{Some, None, if◌then◌else◌}
 use Rattle.rules.specs.Basic.{is_some, little_endian_at, little_endian_4_at}
 use Rattle.rules.specs.Queue.{Fare, queue_head, fare_size, fare_bytes, fares_bytes, queue, queue_in}
 use Rattle.laws.proofs.Queues.{fares_length, fares_count, queue_length, next_first, fares_last, sound_layout}
-use Rattle.queue.specs.declared.FareEnd.TheVariants.{Behind, Absent}
 use Rattle.queue.specs.Ends.{ends_behind, fare_end}
 use Rattle.queue.proofs.Fares.{size_here, number_here, length_here, rest_here}
 
@@ -84,17 +83,17 @@ module _ (n at : ℕ) (b : List ℕ) where
         number_is : k ≡ (first a h).fare.number
         number_is = let f = first a h in ek ∙ number_here at b f.fare (fares_bytes f.others) f.here
 
-        opened : fare_end n (queue_in b) ≡ (if eqb n k then Behind (at + z) else ends_behind (at + z) n (first a h).others)
+        opened : fare_end n (queue_in b) ≡ (if eqb n k then Some (at + z) else ends_behind (at + z) n (first a h).others)
         opened =
             a.same ∙ ap (ends_behind at n) (first a h).split ∙ one ∙
-            (λ i. if eqb n (sym number_is i) then Behind (at + size_is i) else ends_behind (at + size_is i) n (first a h).others)
+            (λ i. if eqb n (sym number_is i) then Some (at + size_is i) else ends_behind (at + size_is i) n (first a h).others)
           where
             one : ends_behind at n ((first a h).fare ∷ (first a h).others) ≡
-                (if eqb n (first a h).fare.number then Behind (at + fare_size (first a h).fare) else
+                (if eqb n (first a h).fare.number then Some (at + fare_size (first a h).fare) else
                 ends_behind (at + fare_size (first a h).fare) n (first a h).others)
             one = unfold ends_behind in refl
 
-        pub found_here : k ≡ n → Behind (at + z) ≡ fare_end n (queue_in b)
+        pub found_here : k ≡ n → Some (at + z) ≡ fare_end n (queue_in b)
         found_here e = sym (opened ∙ rw (eq-eqb n k (sym e)))
 
         pub go_on : (k ≡ n → ⊥) → Ahead n b (at + z)
@@ -107,10 +106,10 @@ module _ (n at : ℕ) (b : List ℕ) where
               inside = stays_in;
             }
 
-  pub search_end : Ahead n b at → length b ≤ at → Absent ≡ fare_end n (queue_in b)
+  pub search_end : Ahead n b at → length b ≤ at → None ≡ fare_end n (queue_in b)
   search_end a h = sym (a.same ∙ go a.fares refl)
     where
-      go : (fs : List Fare) → a.fares ≡ fs → ends_behind at n a.fares ≡ Absent
+      go : (fs : List Fare) → a.fares ≡ fs → ends_behind at n a.fares ≡ None
       go [] e = ap (ends_behind at n) e ∙ (unfold ends_behind in refl)
       go (f ∷ fs) e =
           let none : fares_bytes a.fares ≡ [] = sym a.bytes ∙ drop_of_length-le b {i = at} h in

@@ -3,14 +3,13 @@ use Prim.Native.Nat.{ℕ, ◌+◌, ◌*◌, ◌-◌, ◌≤◌, ◌<◌}
 use mathlib.Core.Path.{◌≡◌, refl, sym, ap, ◌∙◌}
 use mathlib.Core.Bool.{Bool, true, false, not, ◌&&◌}
 use mathlib.Core.List.{List, [], ◌∷◌, ◌++◌, append-nil}
-use borrow.Author.Tests.{eq-eqb, ne_eqb, eqb-true, le-leb, leb-true, not-true, not-false}
+use borrow.Author.Tests.{eq-eqb, eqb-true, le-leb, leb-true, not-true, not-false}
 use native.Mathlib.Omega.{arith}
 use native.Mathlib.Nat.{add-sub_cancel_left}
 use lib.Dec.{eqb}
 use lib.ListN.{length, get_or, take, drop, length-drop, take-append-drop}
 use lib.Seq.{take_at, drop-append_seam, drop-drop, length-take-le}
 use borrow.Author.Rules.{part_to_end}
-use Rattle.rules.specs.declared.Kind.{Kind}
 use Rattle.rules.specs.declared.Slot.{Slot}
 use Rattle.rules.specs.declared.Slot.TheVariants.{Change, Read, Execute}
 use Rattle.rules.specs.Basic.{all, zeros, little_endian_at}
@@ -21,12 +20,11 @@ use Rattle.rules.specs.Layout.{read_record_with, record_bytes_with, slot_at_with
 use Rattle.laws.proofs.Facts.{allowed, allowed_by}
 use Rattle.laws.proofs.Tests.{and_left, and_right, at_place, same_refl, same_eq}
 use Rattle.laws.proofs.Inverse.{slot_length, slot_read, record_length, record_read}
-use Rattle.primitives.specs.Bytes.{all_zero}
 use Rattle.primitives.proofs.Zeros.{zeros_are, are_zeros}
-use Rattle.expression.proofs.Tests.{same_test, calls}
+use Rattle.expression.proofs.Tests.{same_test}
 use Rattle.expression.proofs.Conditions.{two}
 use Rattle.expression.proofs.Numbers.{Bytes, two_back}
-use Rattle.record.specs.Records.{is_slot, part, head_allowed, kind_allowed, slots_allowed, body_allowed, is_record}
+use Rattle.record.specs.Records.{is_slot, head_allowed, kind_allowed, slots_allowed, body_allowed, is_record}
 use Rattle.record.proofs.Standing.{Slotted, size_here, kind_here, used_here, slot_here, data_here}
 
 -- the tests of a record's first bytes, by their names
@@ -180,32 +178,3 @@ pub head_gives : (s : List ℕ) (r : Bool) → r ≡ head_allowed s → not r �
 head_gives s r e n =
     let h = head s (sym e ∙ not-false r n) in
     (h.long, omega (arith, h.long, h.maximum_told, h.used_fits))
-
-pub session_yes : {r : Bool} {n m : ℕ} → r ≡ in_session n → n ≡ m → r ≡ true → not (in_session m) ≡ false
-session_yes {r} {n} {m} e f t = ap not (ap in_session (sym f) ∙ sym e ∙ t)
-
-pub session_no : {r : Bool} {n m : ℕ} → r ≡ in_session n → n ≡ m → r ≡ false → not (in_session m) ≡ true
-session_no {r} {n} {m} e f t = ap not (ap in_session (sym f) ∙ sym e ∙ t)
-
-pub ruleset head_tests = (session_yes, session_no, calls)
-
-pub used_by : (s : List ℕ) (r : Bool) (u : ℕ) → r ≡ all_zero (part s (head_size + u) (length s)) → u ≡ little_endian_at 8 s →
-    r ≡ all_zero (part s (head_size + little_endian_at 8 s) (length s))
-used_by s r u f e = rw e at f
-
-pub kind_by : (s : List ℕ) (r : Bool) (k m u : ℕ) → r ≡ kind_allowed k m (part s head_size (head_size + u)) →
-    k ≡ little_endian_at 2 s → m ≡ little_endian_at 6 s → u ≡ little_endian_at 8 s →
-    r ≡ kind_allowed (little_endian_at 2 s) (little_endian_at 6 s) (part s head_size (head_size + little_endian_at 8 s))
-kind_by s r k m u f ek em eu = f ∙ (λ i. kind_allowed (ek i) (em i) (part s head_size (head_size + eu i)))
-
--- kinds ------------------------------------------------------------------------------------------------------------------
-
--- `kind_ok`: a number that is read as this kind
-pub read_as : (k : Kind) (n m : ℕ) (b : List ℕ) (r : Bool) → k ≡ read_kind n → r ≡ (eqb (kind_number k) n && data_allowed k m b) → r ≡ kind_allowed n m b
-unfolding kind_allowed
-read_as k n m b r e f = rw (← e) f
-
--- and one of no kind
-pub read_none : (n m : ℕ) (b : List ℕ) → (n ≡ 1 → ⊥) → (n ≡ 2 → ⊥) → (n ≡ 3 → ⊥) → (n ≡ 4 → ⊥) → false ≡ kind_allowed n m b
-unfolding kind_allowed read_kind kind_number
-read_none n m b d u q w = rw (ne_eqb n 1 d, ne_eqb n 2 u, ne_eqb n 3 q, ne_eqb 4 n (λ e. w (sym e)))

@@ -1,5 +1,5 @@
 -- Words for the contracts about one record's bytes, made of the rules' words.
-use Rattle.std.specs.Prelude.{ℕ, zero, suc, ◌+◌, ◌*◌, ◌-◌, Bool, true, not, ◌&&◌, List, [], ◌∷◌, eqb, leb, length, get_or, take, drop}
+use Rattle.std.specs.Prelude.{ℕ, ◌+◌, ◌*◌, ◌-◌, Bool, true, not, ◌&&◌, List, [], ◌∷◌, eqb, leb, length, get_or, take, drop}
 use Rattle.rules.specs.Basic.{all, joined, same, is_some, little_endian, little_endian_at}
 use Rattle.rules.specs.Expression.{expression, expression_allowed, is_state}
 use Rattle.rules.specs.declared.Kind.{Kind}
@@ -44,10 +44,10 @@ slots_allowed b =
     is_slot (part b (slots_at + slot_size) (slots_at + 2 * slot_size)) ∷
     is_slot (part b (slots_at + 2 * slot_size) head_size) ∷ [])
 
--- n slots, one after another, from k on
-abbrev pub slots_from : ℕ → ℕ → List ℕ → Bool
-slots_from zero k b = true
-slots_from (suc n) k b = is_slot (part b k (k + slot_size)) && slots_from n (k + slot_size) b
+-- a slot stands at each of these places
+abbrev pub slots_from : List ℕ → List ℕ → Bool
+slots_from [] b = true
+slots_from (k ∷ ks) b = is_slot (part b k (k + slot_size)) && slots_from ks b
 
 -- what the others must say
 unfoldable pub body_allowed : List ℕ → Bool

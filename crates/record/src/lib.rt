@@ -34,8 +34,6 @@ pub const CHANGE: usize = 12;
 
 const SLOT: usize = expression::LONGEST + 1;
 
-const SLOTS: usize = 3;
-
 pub const READ: usize = CHANGE + SLOT;
 
 pub const EXECUTE: usize = READ + SLOT;
@@ -47,19 +45,14 @@ pub const SHORTEST: usize = DATA + 1;
 
 const LARGEST: u16 = 1500;
 
-// The numbers of the kinds: data, counters that count up and down, and queues.
-const DATA_KIND: u16 = 1;
-
-const UP_KIND: u16 = 2;
-
-const QUEUE_KIND: u16 = 3;
-
-const DOWN_KIND: u16 = 4;
+// The number of the kind that is put, data.
+const DATA_KIND: u16 = 0x0001;
 
 // Where the last 16 bytes of a slot begin: of a fixed length, they need no loop.
 const LAST: usize = SLOT - 16;
 
 // Whether the bytes of a slot from e on are zero.
+#[tactic(auto, using(crate::proofs::Slots::in_two))]
 fn zero_from(bytes: &[u8], e: usize) -> bool
     requires { (length bytes.now ≡ slot_size) × (e ≤ slot_size) }
     ensures { result ≡ all_zero (take (slot_size - e) (drop e bytes.now)) }
@@ -67,76 +60,60 @@ fn zero_from(bytes: &[u8], e: usize) -> bool
     if LAST < e {
         return primitives::all_zero(&bytes[e..SLOT]);
     }
-    if !primitives::all_zero(&bytes[LAST..SLOT]) {
-        return false;
-    }
-    primitives::all_zero(&bytes[e..LAST])
+    primitives::all_zero(&bytes[LAST..SLOT]) && primitives::all_zero(&bytes[e..LAST])
 }
 
 // Whether a slot holds an expression of n bytes, with zeros behind.
+#[tactic(auto, unfolding(crate::specs::Records::filled))]
 fn filled(part: &[u8], n: usize) -> bool
     requires { (length part.now ≡ slot_size) × (n < slot_size) }
     ensures { result ≡ filled n part.now }
 {
-    let e = n + 1;
-    if !expression::well_formed(&part[1..e]) {
-        return false;
-    }
-    zero_from(part, e)
+    expression::well_formed(&part[1..n + 1]) && zero_from(part, n + 1)
 }
 
 // Whether it holds one byte, with zeros behind: here and for one condition they are of a fixed length, and need no loop.
+#[tactic(auto, using(crate::proofs::Slots::filled_one))]
 fn filled_by_one(part: &[u8]) -> bool
     requires { length part.now ≡ slot_size }
     ensures { result ≡ filled 1 part.now }
 {
-    if !expression::single(part[1]) {
-        return false;
-    }
-    primitives::all_zero(&part[2..SLOT])
+    expression::single(part[1]) && primitives::all_zero(&part[2..SLOT])
 }
 
 // Whether it holds one condition, with zeros behind.
+#[tactic(auto, using(crate::proofs::Slots::filled_condition))]
 fn filled_by_condition(part: &[u8]) -> bool
     requires { length part.now ≡ slot_size }
     ensures { result ≡ filled 3 part.now }
 {
-    if !expression::condition_allowed(part, 1) {
-        return false;
-    }
-    primitives::all_zero(&part[4..SLOT])
+    expression::condition_allowed(part, 1) && primitives::all_zero(&part[4..SLOT])
 }
 
 // Whether these bytes are the slot of an expression.
+#[tactic(auto, using(crate::proofs::Slots::slot_same))]
 fn slot_ok(part: &[u8]) -> bool
     requires { length part.now ≡ slot_size }
     ensures { result ≡ is_slot part.now }
 {
     let n = part[0] as usize;
-    if n == 1 {
-        return filled_by_one(part);
+    match n {
+        1 => filled_by_one(part),
+        3 => filled_by_condition(part),
+        _ => n < SLOT && filled(part, n),
     }
-    if n == 3 {
-        return filled_by_condition(part);
-    }
-    if SLOT - 1 < n {
-        return false;
-    }
-    filled(part, n)
 }
 
 // Whether the number is that of an object of the session.
+#[tactic(auto, unfolding(rules::specs::Basic::among, rules::specs::Object::in_session))]
 fn in_session(number: ObjectNumber) -> bool
     ensures { result ≡ in_session number.0 }
 {
-    let n = number.0;
-    match n {
-        0xE0C0 | 0xF1C0 | 0xF1C2 => true,
-        _ => false,
-    }
+    matches!(number.0, 0xE0C0 | 0xF1C0 | 0xF1C2)
 }
 
 // Whether the bytes before the slots are those of a record of this length.
+#[tactic(auto, unfolding(rules::specs::Basic::all, crate::specs::Records::head_allowed))]
 fn head_ok(part: &[u8]) -> bool
     ensures { result ≡ head_allowed part.now }
 {
@@ -144,100 +121,70 @@ fn head_ok(part: &[u8]) -> bool
     if n < SHORTEST {
         return false;
     }
-    if primitives::little_endian_at(part, 0) as usize != n {
-        return false;
-    }
-    if in_session(ObjectNumber(primitives::little_endian_at(part, NUMBER))) {
-        return false;
-    }
     let maximum = primitives::little_endian_at(part, MAXIMUM);
-    if maximum as usize != n - DATA {
-        return false;
-    }
-    if LARGEST < maximum {
-        return false;
-    }
-    if maximum < primitives::little_endian_at(part, USED) {
-        return false;
-    }
-    if !expression::is_state(part[LCSO]) {
-        return false;
-    }
-    part[ZERO] == 0
+    primitives::little_endian_at(part, 0) as usize == n
+        && !in_session(ObjectNumber(primitives::little_endian_at(part, NUMBER)))
+        && maximum as usize == n - DATA
+        && maximum <= LARGEST
+        && primitives::little_endian_at(part, USED) <= maximum
+        && expression::is_state(part[LCSO])
+        && part[ZERO] == 0
 }
 
 // Whether maximum and used are those of a counter.
 fn counter_sizes(maximum: Length, content: &[u8]) -> bool
     ensures { result ≡ (eqb maximum.0 counter_size && eqb (length content.now) counter_size) }
 {
-    if maximum.0 != counter::SIZE {
-        return false;
-    }
-    content.len() == counter::SIZE
+    maximum.0 == counter::SIZE && content.len() == counter::SIZE
 }
 
 // Whether the number is that of a kind of record which may have such data: any bytes for data, else those of a counter or of a queue.
-fn kind_ok(kind: u16, maximum: Length, content: &[u8]) -> bool
-    ensures { result ≡ kind_allowed kind maximum.0 content.now }
+fn kind_ok(number: u16, maximum: Length, content: &[u8]) -> bool
+    ensures { result ≡ kind_allowed number maximum.0 content.now }
 {
-    if kind == DATA_KIND {
-        return true;
+    let Ok(kind) = Kind::try_from(number) else {
+        return false;
+    };
+    match kind {
+        Kind::Data => true,
+        Kind::Counter(_) => counter_sizes(maximum, content),
+        Kind::Queue => queue::check(content),
+        Kind::LifeCycle | Kind::Status => false,
     }
-    if kind == UP_KIND {
-        return counter_sizes(maximum, content);
-    }
-    if kind == QUEUE_KIND {
-        return queue::check(content);
-    }
-    if kind == DOWN_KIND {
-        return counter_sizes(maximum, content);
-    }
-    false
 }
 
 // Whether the slots are slots: a loop, so that the check of a slot is compiled into it.
+#[tactic(auto, using(crate::proofs::Slots::slots_stop, crate::proofs::Slots::slots_on), unfolding(rules::specs::Basic::all, crate::specs::Records::slots_allowed))]
 fn slots_ok(part: &[u8]) -> bool
     requires { head_size + 1 ≤ length part.now }
     ensures { result ≡ slots_allowed part.now }
 {
-    let mut at: usize = CHANGE;
-    let mut left: usize = SLOTS;
-    while 0 < left {
-        let e = at + SLOT;
-        if !slot_ok(&part[at..e]) {
+    for at in [CHANGE, READ, EXECUTE] {
+        if !slot_ok(&part[at..at + SLOT]) {
             return false;
         }
-        at = e;
-        left -= 1;
     }
     true
 }
 
 // Whether the kind may have this data, the slots are slots, and all bytes past those in use are zero.
+#[tactic(auto, unfolding(rules::specs::Basic::all, crate::specs::Records::body_allowed))]
 fn body_ok(part: &[u8]) -> bool
     requires { (head_size + 1 ≤ length part.now) × (head_size + little_endian_at 8 part.now ≤ length part.now) }
     ensures { result ≡ body_allowed part.now }
 {
-    let kind = primitives::little_endian_at(part, KIND);
+    let number = primitives::little_endian_at(part, KIND);
     let maximum = Length(primitives::little_endian_at(part, MAXIMUM) as usize);
     let a = DATA + primitives::little_endian_at(part, USED) as usize;
-    if !kind_ok(kind, maximum, &part[DATA..a]) {
-        return false;
-    }
-    if !slots_ok(part) {
-        return false;
-    }
-    primitives::all_zero(&part[a..])
+    kind_ok(number, maximum, &part[DATA..a]) && slots_ok(part) && primitives::all_zero(&part[a..])
 }
 
 // Whether these bytes are one record.
+#[tactic(auto, using(crate::proofs::Records::record_by, crate::proofs::Records::head_gives))]
 pub fn record_ok(part: &[u8]) -> bool
     ensures { result ≡ is_record part.now }
 {
-    if !head_ok(part) {
-        return false;
-    }
-    body_ok(part)
+    head_ok(part) && body_ok(part)
 }
 
 // The length of the record that may stand at a place.
@@ -249,6 +196,7 @@ pub fn length_at(store: &[u8], at: usize) -> usize
 }
 
 // How far into a record a slot begins.
+#[tactic(auto, unfolding(rules::specs::Layout::slot_at_with))]
 pub fn slot_at(slot: Slot) -> usize
     ensures { result ≡ slot_at slot }
 {
@@ -264,10 +212,8 @@ fn counted(store: &[u8], at: usize) -> &[u8]
     requires { at + 1 + get_or store.now at 0 ≤ length store.now }
     ensures { result.now ≡ take (get_or store.now at 0) (drop (at + 1) store.now) }
 {
-    let n = store[at] as usize;
     let a = at + 1;
-    let e = a + n;
-    &store[a..e]
+    &store[a..a + store[at] as usize]
 }
 
 // A stored object, where its record stands in the store: seen as what it holds.
@@ -388,8 +334,7 @@ impl<'a> StoredObject<'a> {
         ensures allowed { object_allowed self.now ≡ true }
     {
         let a = self.at + DATA + offset.0;
-        let e = a + length.0;
-        &self.store[a..e]
+        &self.store[a..a + length.0]
     }
 
     // The data in use, of an object that may stand in a store.
@@ -496,7 +441,7 @@ pub fn data_end(store: &[u8], at: usize) -> usize
     requires { Stored at store.now }
     ensures { result ≡ at + head_size + (object_at at store.now).maximum }
 {
-    at + DATA + primitives::little_endian_at(store, at + MAXIMUM) as usize
+    at + DATA + StoredObject::at(store, at).maximum().0
 }
 
 // Writes how many bytes of the data are in use.
@@ -504,45 +449,31 @@ pub fn set_used(store: &mut [u8], at: usize, used: usize)
     requires { (at + 9 < length store.old) × (used < 65536) }
     ensures { store.new ≡ over (at + 8) (little_endian used) store.old }
 {
-    let bytes = [(used % 256) as u8, (used / 256) as u8];
-    primitives::put(store, at + USED, &bytes);
+    primitives::put_little_endian(store, at + USED, used as u16);
 }
 
 // Puts a slot: the length of the expression, the expression, zeros.
+#[tactic(auto, using(crate::proofs::Slots::put_by))]
 pub fn put_slot(store: &mut [u8], at: usize, value: &[u8])
     requires { (at + slot_size ≤ length store.old) × (length value.now < slot_size) }
     ensures { store.new ≡ over at (slot_of value.now) store.old }
 {
     let n = value.len();
-    let count = [n as u8];
-    primitives::put(store, at, &count);
-    let a = at + 1;
-    primitives::put(store, a, value);
-    let e = a + n;
-    primitives::put_zeros(store, e, SLOT - 1 - n);
+    store[at] = n as u8;
+    primitives::put(store, at + 1, value);
+    primitives::put_zeros(store, at + 1 + n, SLOT - 1 - n);
 }
 
 // Puts the bytes of a record of data before its slots: none of the data is in use, LcsO is 01.
+#[tactic(auto, using(crate::proofs::Slots::fixed_by))]
 pub fn put_fixed(part: &mut [u8], number: ObjectNumber, maximum: Length)
     requires { (head_size ≤ length part.old) × (head_size + maximum.0 < 65536) }
     ensures { part.new ≡ over 0 (fixed Data number.0 maximum.0 0 1) part.old }
 {
-    let n = number.0;
-    let m = maximum.0;
-    let l = DATA + m;
-    let bytes = [
-        (l % 256) as u8,
-        (l / 256) as u8,
-        (DATA_KIND % 256) as u8,
-        (DATA_KIND / 256) as u8,
-        (n % 256) as u8,
-        (n / 256) as u8,
-        (m % 256) as u8,
-        (m / 256) as u8,
-        0,
-        0,
-        1,
-        0,
-    ];
-    primitives::put(part, 0, &bytes);
+    primitives::put_little_endian(part, 0, (DATA + maximum.0) as u16);
+    primitives::put_little_endian(part, KIND, DATA_KIND);
+    primitives::put_little_endian(part, NUMBER, number.0);
+    primitives::put_little_endian(part, MAXIMUM, maximum.0 as u16);
+    primitives::put_little_endian(part, USED, 0);
+    primitives::put(part, LCSO, &[0x01, 0x00]);
 }

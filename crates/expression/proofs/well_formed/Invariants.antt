@@ -1,13 +1,10 @@
-use Prim.Native.Nat.{◌≤◌, ◌-◌}
+use Prim.Native.Nat.{◌*◌}
 use mathlib.Core.Path.{◌≡◌}
-use lib.ListN.{length, drop}
+use lib.ListN.{drop}
 use Rattle.rules.specs.Basic.{is_some}
 use Rattle.rules.specs.Expression.{expression}
 use Rattle.expression.proofs.Forms.{fits}
 use Rattle.expression.proofs.well_formed.Given as goal
 
-abbrev pub invariant-loop-at : goal.invariant-loop-at
-invariant-loop-at l = (l.at ≤ length l.part) × (1 ≤ l.groups) × (is_some (expression l.part) ≡ fits l.groups (drop l.at l.part))
-
-abbrev pub decreases-loop-at : goal.decreases-loop-at
-decreases-loop-at l = length l.part - l.at
+abbrev pub invariant-loop-condition : goal.invariant-loop-condition
+invariant-loop-condition l = is_some (expression l.part) ≡ fits l.groups (drop (4 * l.condition-index) l.part)

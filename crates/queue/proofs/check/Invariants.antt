@@ -1,4 +1,4 @@
-use Prim.Native.Nat.{◌≤◌, ◌-◌}
+use Prim.Native.Nat.{◌≤◌, ◌<◌}
 use lib.ListN.{length, drop}
 use Rattle.rules.specs.Basic.{is_some}
 use Rattle.rules.specs.Queue.{queue}
@@ -6,7 +6,5 @@ use Rattle.queue.proofs.Checking.{Left}
 use Rattle.queue.proofs.check.Given as goal
 
 abbrev pub invariant-loop-number : goal.invariant-loop-number
-invariant-loop-number l = (l.at ≤ length l.content) × (l.number ≤ l.next) × Left (is_some (queue l.content)) l.number l.next (drop l.at l.content)
-
-abbrev pub decreases-loop-number : goal.decreases-loop-number
-decreases-loop-number l = l.next - l.number
+invariant-loop-number l =
+    (l.at ≤ length l.content) × (l.next < l.number → l.at < length l.content) × Left (is_some (queue l.content)) l.number l.next (drop l.at l.content)

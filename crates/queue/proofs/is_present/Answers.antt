@@ -6,8 +6,8 @@ use Rattle.queue.proofs.is_present.Goals as goal
 pub first_number-requires : goal.first_number-requires
 first_number-requires c = search head_long
 
-pub returns-then-number-first_number : goal.returns-then-number-first_number
-returns-then-number-first_number c = search below_first
+pub returns-then-first_number-number : goal.returns-then-first_number-number
+returns-then-first_number-number c = search from_first
 
-pub returns : goal.returns
-returns c = search from_first
+pub returns-else-first_number-number : goal.returns-else-first_number-number
+returns-else-first_number-number c = search below_first

@@ -1,28 +1,20 @@
--- Each number is read as its kind.
-use mathlib.Core.Path.{sym}
-use Rattle.rules.specs.declared.Kind.TheVariants.{Data, Counter, Queue}
-use Rattle.rules.specs.declared.Direction.TheVariants.{Up, Down}
-use Rattle.rules.specs.Object.{kind_number, read_kind, data_allowed}
-use Rattle.expression.proofs.Tests.{tests}
-use Rattle.record.proofs.Records.{read_as, read_none}
+-- The number is read as a kind, or as none.
+use mathlib.Core.Path.{refl}
+use Rattle.rules.specs.Object.{data_allowed}
+use Rattle.record.proofs.ByKind.{kind_by, no_kind}
 use Rattle.record.proofs.kind_ok.Goals as goal
 
-pub returns-then-kind-eq-DATA_KIND : goal.returns-then-kind-eq-DATA_KIND
-unfolding kind_number read_kind data_allowed
-returns-then-kind-eq-DATA_KIND c = search (read_as Data, tests, sym) depth 8
+pub returns-in-Data : goal.returns-in-Data
+unfolding data_allowed
+returns-in-Data c = kind_by _ _ _ _ c.try_from.ensures _ _ c.in-Ok.is c.in-Data.is _ refl
 
-pub returns-then-kind-eq-UP_KIND : goal.returns-then-kind-eq-UP_KIND
-unfolding kind_number read_kind data_allowed
-returns-then-kind-eq-UP_KIND c = search (read_as (Counter Up), tests, sym) depth 8
+pub returns-in-Counter : goal.returns-in-Counter
+unfolding data_allowed
+returns-in-Counter c = kind_by _ _ _ _ c.try_from.ensures _ _ c.in-Ok.is c.in-Counter.is _ c.counter_sizes.ensures
 
-pub returns-then-kind-eq-QUEUE_KIND : goal.returns-then-kind-eq-QUEUE_KIND
-unfolding kind_number read_kind data_allowed
-returns-then-kind-eq-QUEUE_KIND c = search (read_as Queue, tests, sym) depth 8
+pub returns-in-Queue : goal.returns-in-Queue
+unfolding data_allowed
+returns-in-Queue c = kind_by _ _ _ _ c.try_from.ensures _ _ c.in-Ok.is c.in-Queue.is _ c.check.ensures
 
-pub returns-then-kind-eq-DOWN_KIND : goal.returns-then-kind-eq-DOWN_KIND
-unfolding kind_number read_kind data_allowed
-returns-then-kind-eq-DOWN_KIND c = search (read_as (Counter Down), tests, sym) depth 8
-
-pub returns : goal.returns
-unfolding kind_number read_kind data_allowed
-returns c = search read_none
+pub returns-in_default : goal.returns-in_default
+returns-in_default c = search no_kind
