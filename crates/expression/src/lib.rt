@@ -22,6 +22,7 @@ const NEVER: u8 = 0xFF;
 pub const COUNTER: u8 = 0x40;
 
 // What a condition on a state begins with: whose state it is. Then what the state is to a given one, which follows.
+// Numbers and no enums: `present` and `state_holds` of the rules give a state and an answer for every byte.
 pub const LCSG: u8 = 0x70;
 
 pub const LCSA: u8 = 0xE0;
@@ -39,7 +40,7 @@ pub const AND: u8 = 0xFD;
 
 pub const OR: u8 = 0xFE;
 
-// Whether the byte is a life cycle state.
+// Whether the byte is a life cycle state: a number and no enum, since a session may hold any byte.
 #[tactic(auto, unfolding(rules::specs::Basic::among, rules::specs::Expression::is_state))]
 pub fn is_state(b: u8) -> bool
     ensures { result ≡ is_state b }
@@ -70,7 +71,7 @@ pub fn condition_allowed(part: &[u8], at: usize) -> bool
     }
 }
 
-// How many groups may still come, the present one counted, behind a byte that joins; none where it does not.
+// How many groups may still come, the present one counted, behind a byte that joins; none where it does not, or begins one too many.
 #[tactic(auto, unfolding(crate::specs::Conditions::groups_after))]
 fn groups_after(joint: u8, groups: usize) -> Option<usize>
     ensures { result ≡ groups_after joint groups }
@@ -95,8 +96,8 @@ pub fn single(b: u8) -> bool
 pub fn well_formed(part: &[u8]) -> bool
     ensures { result ≡ is_some (expression part.now) }
 {
-    if part.len() == 1 {
-        return single(part[0]);
+    if let [byte] = part {
+        return single(*byte);
     }
     if LONGEST < part.len() {
         return false;

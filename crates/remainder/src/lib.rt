@@ -5,7 +5,7 @@ ghost use Rattle.std.specs.Prelude.{◌≡◌};
 ghost use Rattle.remainder.specs.Remainder.{table, with_byte, remainder};
 
 // Eight steps of each index.
-const TABLE: [u16; 256] = [
+static TABLE: [u16; 256] = [
     0x0000, 0x1189, 0x2312, 0x329B, 0x4624, 0x57AD, 0x6536, 0x74BF, 0x8C48, 0x9DC1, 0xAF5A, 0xBED3,
     0xCA6C, 0xDBE5, 0xE97E, 0xF8F7, 0x1081, 0x0108, 0x3393, 0x221A, 0x56A5, 0x472C, 0x75B7, 0x643E,
     0x9CC9, 0x8D40, 0xBFDB, 0xAE52, 0xDAED, 0xCB64, 0xF9FF, 0xE876, 0x2102, 0x308B, 0x0210, 0x1399,
@@ -30,31 +30,29 @@ const TABLE: [u16; 256] = [
     0x3DE3, 0x2C6A, 0x1EF1, 0x0F78,
 ];
 
-// A caller takes the table once for all its bytes: each naming of a const copies it.
-fn table() -> [u16; 256]
-    ensures { result ≡ table }
+// The table where it stands, not copied.
+#[tactic(auto, unfolding(crate::specs::Remainder::table, crate::specs::Remainder::entries, crate::specs::Remainder::eight_steps, crate::specs::Remainder::bit_step))]
+fn table() -> &'static [u16; 256]
+    ensures { result.now ≡ table }
 {
-    TABLE
+    &TABLE
 }
 
-fn with_byte(entries: &[u16; 256], x: u16, byte: u8) -> u16
-    requires { entries.now ≡ table }
+#[tactic(auto, using(crate::proofs::Entries::with_byte_by))]
+fn with_byte(x: u16, byte: u8) -> u16
     ensures { result ≡ with_byte x byte }
 {
     let y = x ^ (byte as u16);
-    let i = (y % 256) as usize;
-    entries[i] ^ (y / 256)
+    table()[(y % 256) as usize] ^ (y / 256)
 }
 
+#[tactic(auto, using(crate::proofs::Passing::remainder_on, crate::proofs::Passing::remainder_end), unfolding(crate::specs::Remainder::remainder))]
 pub fn remainder(bytes: &[u8]) -> u16
     ensures { result ≡ remainder bytes.now }
 {
-    let entries = table();
     let mut x: u16 = 0;
-    let mut i: usize = 0;
-    while i < bytes.len() {
-        x = with_byte(&entries, x, bytes[i]);
-        i += 1;
+    for byte in bytes {
+        x = with_byte(x, *byte);
     }
     x
 }
