@@ -36,7 +36,7 @@ use Rattle.laws.proofs.Puts.{shown_length}
 use Rattle.laws.proofs.Views.{operation_alike}
 use Rattle.record.specs.Places.{Stored}
 use Rattle.laws.proofs.Calls.{stopped, gone_on}
-use Rattle.laws.proofs.Facts.{allowed}
+use Rattle.laws.proofs.Facts.{storable, allowed}
 use Rattle.std.specs.Prelude.{Option, Some, None}
 use Rattle.access.specs.Told.{told}
 use Rattle.judge.specs.Aims.{Aim}
@@ -95,6 +95,10 @@ no_life_cycle (Counter Down) n = refl
 no_life_cycle Queue n = refl
 no_life_cycle LifeCycle n = absurd (n refl)
 no_life_cycle Status n = refl
+
+pub a_life_cycle : (w : Kind) → w ≡ LifeCycle → true ≡ is LifeCycle w
+unfolding is kind_number
+a_life_cycle w e = rw e
 
 pub session_by : (w v : Action) (c : List ℕ) (k : Kind) (byte room : ℕ) (r : Verdict) → w ≡ v → r ≡ session_verdict v c k byte room →
     r ≡ session_verdict w c k byte room

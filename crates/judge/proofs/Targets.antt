@@ -9,7 +9,7 @@ use Rattle.rules.specs.declared.ObjectNumber.{ObjectNumber}
 use Rattle.rules.specs.declared.Kind.{Kind}
 use Rattle.rules.specs.declared.Session.{Session}
 use Rattle.rules.specs.Found.{Found}
-use Rattle.rules.specs.declared.Found.TheVariants as found_at
+use Rattle.std.specs.Prelude.{Some, None}
 use Rattle.rules.specs.Basic.{among, is_some, or_else}
 use Rattle.rules.specs.Command.{object_number}
 use Rattle.rules.specs.Object.{in_session}
@@ -22,12 +22,12 @@ use Rattle.record.specs.Places.{Stored}
 use Rattle.store.specs.Way.{way}
 use Rattle.store.proofs.Ways.{sound_find}
 use Rattle.store.proofs.Placing.{nowhere, finds_it, stored_there}
-use Rattle.judge.specs.declared.Target.TheVariants.{InSession, InStore, Nothing}
+use Rattle.judge.specs.declared.Target.TheVariants.{InSession, InStore}
 use Rattle.judge.specs.Targets.{target_object}
 
 -- a number of the session
 pub session_named : (c b : List ℕ) (s : Session) (n : ObjectNumber) (k : Kind) (byte w : ℕ) → n.0 ≡ object_number c → n.0 ≡ w →
-    find w (session_objects s) ≡ some (session_object w k byte) → target_object (InSession n k byte) b ≡ named (object_number c) (seen_in b s)
+    find w (session_objects s) ≡ some (session_object w k byte) → target_object (Some (InSession n k byte)) b ≡ named (object_number c) (seen_in b s)
 unfolding target_object named seen
 session_named c b s n k byte w e h f = rw (← e, h, f)
 
@@ -42,7 +42,7 @@ module _ (c b : List ℕ) (s : Session) (n : ℕ) (e : n ≡ object_number c) (s
   unfolding seen in_session among
   in_store = rw (← e) (named_in_store n (seen_in b s) (rw (ne_eqb n 0xE0C0 g, ne_eqb n 0xF1C0 a, ne_eqb n 0xF1C2 l)))
 
-  pub found_named : (p : ℕ) → r ≡ Some p → target_object (InStore p) b ≡ named (object_number c) (seen_in b s)
+  pub found_named : (p : ℕ) → r ≡ Some p → target_object (Some (InStore p)) b ≡ named (object_number c) (seen_in b s)
   unfolding target_object
   found_named p h = sym (in_store ∙ finds_it n p b (or_else (unpack b) []) (some_else (unpack b) [] sound) (sym in_all ∙ h))
 
@@ -52,6 +52,6 @@ module _ (c b : List ℕ) (s : Session) (n : ℕ) (e : n ≡ object_number c) (s
   pub found_there : (p : ℕ) → r ≡ Some p → found (object_number c) (or_else (unpack b) []) ≡ Some p
   found_there p h = rw (← e) (sym in_all ∙ h)
 
-  pub nothing_named : r ≡ found_at.Nothing → target_object None b ≡ named (object_number c) (seen_in b s)
+  pub nothing_named : r ≡ None → target_object None b ≡ named (object_number c) (seen_in b s)
   unfolding target_object
   nothing_named h = sym (in_store ∙ nowhere n (or_else (unpack b) []) (sym in_all ∙ h))

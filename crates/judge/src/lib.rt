@@ -133,7 +133,8 @@ fn judge_own(asked: Action, command: &[u8], object: &StoredObject<'_>, room: usi
     match asked {
         Action::GetData => judge_get(command, object.used(), room),
         Action::GetMetadata => bounds::fitting(answer::answer_length(object), room),
-        Action::Write | Action::EraseAndWrite => judge_write(command, object, room),
+        Action::Write => judge_write(command, object, room),
+        Action::EraseAndWrite => judge_write(command, object, room),
         Action::SetMetadata => judge_metadata(command, object, room),
         Action::Count => judge_count(command, object, room),
         Action::Append => judge_append(command, object, room),
@@ -176,9 +177,13 @@ fn judge_session(asked: Action, command: &[u8], kind: Kind, byte: u8, room: usiz
 {
     match asked {
         Action::GetData => judge_get(command, Length(1), room),
-        Action::GetMetadata | Action::SetMetadata => Err(Refusal::AccessDenied),
-        Action::Write | Action::EraseAndWrite => judge_state(command, kind, byte, room),
-        Action::Count | Action::Append | Action::Acknowledge => refuse_in_session(kind),
+        Action::GetMetadata => Err(Refusal::AccessDenied),
+        Action::Write => judge_state(command, kind, byte, room),
+        Action::EraseAndWrite => judge_state(command, kind, byte, room),
+        Action::SetMetadata => Err(Refusal::AccessDenied),
+        Action::Count => refuse_in_session(kind),
+        Action::Append => refuse_in_session(kind),
+        Action::Acknowledge => refuse_in_session(kind),
     }
 }
 

@@ -5,9 +5,7 @@ use Rattle.judge.proofs.Judging.{acknowledge_judged}
 use Rattle.judge.proofs.judge_acknowledge.Goals as goal
 
 pub returns-in_err-judge_acknowledge : goal.returns-in_err-judge_acknowledge
-unfolding operation
-returns-in_err-judge_acknowledge c = handed_out _ _ _ c.from_residual.ensures.1 ?
+returns-in_err-judge_acknowledge c = let g = c.in_err-judge_acknowledge.ensures in let h = c.sent_number.ensures in ?
 
 pub returns : goal.returns
-unfolding operation
-returns c = ?
+returns c = let g = c.in_ok-judge_acknowledge.ensures in let h = c.judge_acknowledge.ensures in let k = c.in_ok-judge_acknowledge.was in ?

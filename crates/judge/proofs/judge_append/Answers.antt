@@ -5,9 +5,7 @@ use Rattle.judge.proofs.Judging.{append_judged}
 use Rattle.judge.proofs.judge_append.Goals as goal
 
 pub returns-in_err-judge_append : goal.returns-in_err-judge_append
-unfolding operation
-returns-in_err-judge_append c = handed_out _ _ _ c.from_residual.ensures.1 ?
+returns-in_err-judge_append c = let g = c.in_err-judge_append.ensures in let h = c.sent_body.ensures in ?
 
 pub returns : goal.returns
-unfolding operation
-returns c = ?
+returns c = let g = c.in_ok-judge_append.ensures in let h = c.judge_append.ensures in let k = c.in_ok-judge_append.was in ?
