@@ -363,8 +363,10 @@ impl<'a> StoredObject<'a> {
     }
 
     // Its LcsO.
+    #[tactic(auto, using(crate::proofs::Parts::told_allowed))]
     pub fn lcso(&self) -> u8
-        ensures { result ≡ self.now.lcso }
+        ensures state { result ≡ self.now.lcso }
+        ensures allowed { object_allowed self.now ≡ true }
     {
         self.store[self.at + LCSO]
     }
