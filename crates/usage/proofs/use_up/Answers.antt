@@ -1,18 +1,24 @@
 -- Up to the place, the counters are used up.
-use borrow.Author.Rules.{rules, length_unmapped}
-use mathlib.Core.Path.{refl}
-use native.Mathlib.Omega.{arith}
-use Rattle.usage.proofs.Steps.{use_start, use_sound, use_on, use_end}
+use mathlib.Core.List.{[]}
+use mathlib.Core.Path.{refl, ◌∙◌}
+use Rattle.usage.proofs.Steps.{use_start, use_sound, use_on, use_again, use_end}
+use Rattle.usage.proofs.use_up.Goals.{then-not-contains, else-not-contains}
 use Rattle.usage.proofs.use_up.Goals as goal
 
 pub loop-place-init : goal.loop-place-init
-loop-place-init c = (omega arith, refl, search use_start)
+loop-place-init c = use_start _ c.requires []
 
-pub step_listed-requires : goal.step_listed-requires
-step_listed-requires c = (search use_sound, omega arith)
+pub step_counter-requires : goal.step_counter-requires
+step_counter-requires c = use_sound _ c.requires _ _ _ c.loop-place.invariant
 
 pub loop-place-preserved : goal.loop-place-preserved
-loop-place-preserved c = (omega arith, search rules, search (use_on, length_unmapped))
+loop-place-preserved c = elim c.if-not-contains.branch [
+  | then-not-contains w ↦
+      w.store-is
+      ∙ use_on _ c.requires _ _ _ c.loop-place.invariant _ refl _ c.contains.ensures.value c.loop-place-test.true w.if-not-contains.true _ w.step_counter.ensures
+  | else-not-contains w ↦
+      w.store-is ∙ use_again _ c.requires _ _ _ c.loop-place.invariant _ refl _ c.contains.ensures.value c.loop-place-test.true w.if-not-contains.false
+]
 
 pub returns : goal.returns
-returns c = search use_end
+returns c = use_end _ c.requires _ _ _ c.loop-place.invariant c.loop-place-test.false _ c.numbers-numbers.ensures
