@@ -5,7 +5,7 @@ use mathlib.Core.Bool.{Bool, true, false, not, ◌&&◌, false≢true}
 use mathlib.Core.List.{List, []}
 use native.Mathlib.Omega.{arith}
 use mathlib.Core.Option.{none, some}
-use borrow.Author.Tests.{eqb-true, not-false}
+use borrow.Author.Tests.{eq-eqb, ne_eqb, eqb-true, not-false}
 use lib.Dec.{eqb, leb}
 use lib.ListN.{length, get_or}
 use lib.Seq.{get_or-drop}
@@ -58,15 +58,21 @@ no_counter_kind LifeCycle n = refl
 no_counter_kind Status n = refl
 
 -- a write to a counter, and to another object
-module _ (o : Object) (c d : List ℕ) (k : ℕ) (ek : k ≡ offset c) (ed : d ≡ sent_data c) (r : Bool) (w : Kind) (ew : o.kind ≡ w) where
-  pub fits_counter : (v : Direction) → w ≡ Counter v → r ≡ (eqb k 0 && eqb (length d) counter_size) → r ≡ write_fits o (offset c) (length (sent_data c))
+module _ (o : Object) (c d : List ℕ) (k : ℕ) (ek : k ≡ offset c) (ed : d ≡ sent_data c) (w : Kind) (ew : o.kind ≡ w) where
+  fits_counter : (v : Direction) → w ≡ Counter v → (eqb k 0 && eqb (length d) counter_size) ≡ write_fits o (offset c) (length (sent_data c))
   unfolding write_fits is_counter is kind_number
-  fits_counter Up t f = rw (ew, t, ← ek, ← ed) f
-  fits_counter Down t f = rw (ew, t, ← ek, ← ed) f
+  fits_counter Up t = rw (ew, t, ← ek, ← ed)
+  fits_counter Down t = rw (ew, t, ← ek, ← ed)
 
-  pub fits_other : (m : ℕ) → ((v : Direction) → w ≡ Counter v → ⊥) → o.maximum ≡ m → r ≡ leb (k + length d) m → r ≡ write_fits o (offset c) (length (sent_data c))
+  pub counter_front : (v : Direction) → w ≡ Counter v → k ≡ 0 → eqb (length d) counter_size ≡ write_fits o (offset c) (length (sent_data c))
+  counter_front v t h = rw (eq-eqb k 0 h) at (fits_counter v t)
+
+  pub counter_past : (v : Direction) → w ≡ Counter v → (k ≡ 0 → ⊥) → eqb k 0 ≡ write_fits o (offset c) (length (sent_data c))
+  counter_past v t h = rw (ne_eqb k 0 h) (rw (ne_eqb k 0 h) at (fits_counter v t))
+
+  pub fits_other : (r : Bool) (m : ℕ) → ((v : Direction) → w ≡ Counter v → ⊥) → o.maximum ≡ m → r ≡ leb (k + length d) m → r ≡ write_fits o (offset c) (length (sent_data c))
   unfolding write_fits
-  fits_other m t em f = rw (ew, no_counter_kind w t, ← ek, ← ed, em) f
+  fits_other r m t em f = rw (ew, no_counter_kind w t, ← ek, ← ed, em) f
 
 -- the front of an object
 pub front_told : (c : List ℕ) (k : ℕ) → k ≡ offset c → not (eqb k 0) ≡ not (eqb (offset c) 0)

@@ -120,7 +120,8 @@ fn judge_metadata(command: &[u8], object: &StoredObject<'_>, room: usize) -> Ver
     requires { 6 ≤ length command.now }
     ensures { result ≡ own_verdict SetMetadata command.now object.now room }
 {
-    let allowed = content::content_allowed(command::sent_metadata(command), object.lcso());
+    let stored = object.lcso();
+    let allowed = content::content_allowed(command::sent_metadata(command), stored);
     refuse_if(!allowed, Refusal::InvalidData)?;
     bounds::fitting(Length(0), room)
 }
@@ -158,7 +159,10 @@ fn judge_state(command: &[u8], kind: Kind, byte: u8, room: usize) -> Verdict
     let within = bounds::fits(command::offset(command), Length(data.len()), Length(1));
     refuse_if(!is_life_cycle(kind), Refusal::AccessDenied)?;
     refuse_if(!within, Refusal::BoundaryExceeded)?;
-    refuse_if(!expression::may_become(byte, command[8]), Refusal::InvalidData)?;
+    refuse_if(
+        !expression::may_become(byte, command[8]),
+        Refusal::InvalidData,
+    )?;
     bounds::fitting(Length(0), room)
 }
 
@@ -231,13 +235,16 @@ pub fn judge_target(
     ensures { Judges result
         (ruling_on asked command.now (target_object aim store.now) (seen_in store.now session)) room }
 {
-    match aim {
-        Some(Target::InSession(_, kind, byte)) => {
+    let Some(target) = aim else {
+        return without_counters(Err(Refusal::InvalidObject));
+    };
+    match target {
+        Target::InSession(_, kind, byte) => {
             without_counters(judge_session(asked, command, kind, byte, room))
         }
-        Some(Target::InStore(at)) => {
-            judge_stored(asked, command, &StoredObject::at(store, at), store, session, room)
+        Target::InStore(at) => {
+            let object = StoredObject::at(store, at);
+            judge_stored(asked, command, &object, store, session, room)
         }
-        None => without_counters(Err(Refusal::InvalidObject)),
     }
 }

@@ -5,7 +5,10 @@ use Rattle.judge.proofs.Judging.{acknowledge_judged}
 use Rattle.judge.proofs.judge_acknowledge.Goals as goal
 
 pub returns-in_err-judge_acknowledge : goal.returns-in_err-judge_acknowledge
-returns-in_err-judge_acknowledge c = let g = c.in_err-judge_acknowledge.ensures in let h = c.sent_number.ensures in ?
+returns-in_err-judge_acknowledge c =
+    handed_out _ _ _ c.from_residual.ensures.1
+    (stopped_then _ _ _ (acknowledge_judged c.args.command.now _ c.args.object.now _ c.sent_number.ensures c.in_err-judge_acknowledge.ensures))
 
 pub returns : goal.returns
-returns c = let g = c.in_ok-judge_acknowledge.ensures in let h = c.judge_acknowledge.ensures in let k = c.in_ok-judge_acknowledge.was in ?
+unfolding operation
+returns c = gone_on_then _ _ _ (acknowledge_judged c.args.command.now _ c.args.object.now _ c.sent_number.ensures c.in_ok-judge_acknowledge.ensures) c.fitting.ensures

@@ -5,7 +5,10 @@ use Rattle.judge.proofs.Judging.{append_judged}
 use Rattle.judge.proofs.judge_append.Goals as goal
 
 pub returns-in_err-judge_append : goal.returns-in_err-judge_append
-returns-in_err-judge_append c = let g = c.in_err-judge_append.ensures in let h = c.sent_body.ensures in ?
+returns-in_err-judge_append c =
+    handed_out _ _ _ c.from_residual.ensures.1
+    (stopped_then _ _ _ (append_judged c.args.command.now _ c.args.object.now _ c.sent_body.ensures c.in_err-judge_append.ensures))
 
 pub returns : goal.returns
-returns c = let g = c.in_ok-judge_append.ensures in let h = c.judge_append.ensures in let k = c.in_ok-judge_append.was in ?
+unfolding operation
+returns c = gone_on_then _ _ _ (append_judged c.args.command.now _ c.args.object.now _ c.sent_body.ensures c.in_ok-judge_append.ensures) c.fitting.ensures

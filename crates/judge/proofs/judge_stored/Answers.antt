@@ -1,7 +1,9 @@
--- `judge::judge_stored` meets its contract.
-use Rattle.judge.proofs.Judging.{stored_judged, stored_counters}
-use borrow.Author.Rules.{rules}
+-- Granted or not.
+use Rattle.judge.proofs.Judging.{stored_judged, stored_counters, denied, denied_counters}
 use Rattle.judge.proofs.judge_stored.Goals as goal
 
+pub returns-in_default : goal.returns-in_default
+returns-in_default c = (search denied, search denied_counters)
+
 pub returns : goal.returns
-returns c = (search stored_judged, search stored_counters, search rules)
+returns c = (search stored_judged, search stored_counters)
