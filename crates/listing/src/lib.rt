@@ -29,14 +29,15 @@ struct Line {
 }
 
 // A digit, 0-9 A-F.
+#[tactic(auto, unfolding(rules::specs::Program::digit))]
 fn digit(n: u8) -> u8
     requires { n < 16 }
     ensures { result ≡ digit n }
 {
-    if n < 10 {
-        return 0x30 + n;
+    match n {
+        0..=9 => b'0' + n,
+        _ => b'A' + (n - 10),
     }
-    0x37 + n
 }
 
 // Puts a byte at a place of the output, if it fits, and answers the place past it.
@@ -56,7 +57,7 @@ fn put_text(output: &mut [u8], at: usize, text: &[u8]) -> usize
     requires { at ≤ length output.old }
     ensures { Puts at text.now output result }
 {
-    let n = primitives::min(output.len() - at, text.len());
+    let n = (output.len() - at).min(text.len());
     primitives::put(output, at, &text[..n]);
     at + n
 }
@@ -75,10 +76,8 @@ fn put_hex(output: &mut [u8], at: usize, bytes: &[u8]) -> usize
     ensures { Puts at (upper_hex bytes.now) output result }
 {
     let mut next = at;
-    let mut i = 0;
-    while i < bytes.len() {
-        next = put_pair(output, next, bytes[i]);
-        i += 1;
+    for byte in bytes {
+        next = put_pair(output, next, *byte);
     }
     next
 }
@@ -89,7 +88,7 @@ fn put_response(output: &mut [u8], at: usize, room: &[u8]) -> usize
     ensures { Puts at (upper_hex (response_in room.now)) output result }
 {
     let size = HEADER + primitives::big_endian_at(room, 2) as usize;
-    let end = primitives::min(size, room.len());
+    let end = size.min(room.len());
     put_hex(output, at, &room[..end])
 }
 
@@ -157,6 +156,6 @@ pub fn print_all(input: &[u8], output: &mut [u8]) -> usize
         return put_text(output, 0, b"too long\n");
     }
     let mut store = [0u8; factory::STORE];
-    factory::make_factory_store(&mut store);
+    let _ = factory::make_factory_store(&mut store);
     put_lines(output, input, &mut store, factory::fresh_session())
 }

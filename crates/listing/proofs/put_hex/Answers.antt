@@ -5,11 +5,11 @@ use Rattle.listing.proofs.Texts.{onward_start}
 use Rattle.listing.proofs.Digits.{hex_on, hex_end}
 use Rattle.listing.proofs.put_hex.Goals as goal
 
-pub loop-i-init : goal.loop-i-init
-loop-i-init c = (omega arith, omega arith, refl, search onward_start)
+pub loop-byte-init : goal.loop-byte-init
+loop-byte-init c = (omega arith, refl, search onward_start)
 
-pub loop-i-preserved : goal.loop-i-preserved
-loop-i-preserved c = (omega arith, omega arith, omega arith, search hex_on)
+pub loop-byte-preserved : goal.loop-byte-preserved
+loop-byte-preserved c = (omega arith, omega arith, search hex_on)
 
 pub returns : goal.returns
 returns c = search hex_end
