@@ -133,6 +133,7 @@ impl Output<'_> {
 }
 
 // Puts what the program prints for its input at the front of the output, as much as fits, and answers how many bytes that is.
+#[tactic(auto, using(crate::proofs::Lines::shown, crate::proofs::Lines::long_printed, crate::proofs::Lines::lines_printed))]
 pub fn print_all(input: &[u8], output: &mut [u8]) -> usize
     ensures { Shows (printed input.now) output result }
 {
