@@ -45,6 +45,7 @@ impl Output<'_> {
     ghost use Rattle.listing.specs.Output.{Puts};
 
     // Puts a byte, if it fits.
+    #[tactic(auto, using(crate::proofs::Texts::byte_fits, crate::proofs::Texts::byte_past))]
     fn put_byte(&mut self, byte: u8)
         ensures { Puts (byte ∷ []) self.old self.new }
     {
@@ -55,6 +56,7 @@ impl Output<'_> {
     }
 
     // Puts as much of a text as fits.
+    #[tactic(auto, using(crate::proofs::Texts::text_put))]
     fn put_text(&mut self, text: &[u8])
         ensures { Puts text.now self.old self.new }
     {
