@@ -10,15 +10,12 @@ use types.Run.{OneOf}
 use lib.Dec.{eqb, ltb}
 use lib.ListN.{length, take, drop}
 use lib.Seq.{take-append_seam, drop-append_seam}
-use Rattle.std.specs.Prelude.{if◌then◌else◌}
+use Rattle.std.specs.Prelude.{if◌then◌else◌, Some, Ok}
 use Rattle.rules.specs.Basic.{among, rising, rising_from}
-use Rattle.rules.specs.Metadata.{Field, field, fields_bytes, field_allowed, fields_allowed}
+use Rattle.rules.specs.Metadata.{Field, fields_bytes, field_allowed, fields_allowed}
 use Rattle.laws.proofs.Tests.{and_left, and_right}
-use Rattle.record.specs.Records.{part}
-use Rattle.reader.specs.declared.Next.{Next}
-use Rattle.reader.specs.declared.Next.TheVariants as next
 use Rattle.reader.specs.Content.{field_at}
-use Rattle.reader.proofs.Fields.{stands, here}
+use Rattle.reader.proofs.Fields.{stands, bytes}
 
 abbrev pub tags : List Field → List ℕ
 tags fs = map (λ f. f.tag) fs
@@ -30,12 +27,12 @@ pub record Filling (lcso t : ℕ) (b : List ℕ) : Type 0 where
   pub rise : rising_from t (tags fs) ≡ true
   pub allowed : fields_allowed lcso fs ≡ true
 
--- the first of such fields has the tag t, and its value from a to e; behind it are the others
-pub record First (lcso last t a e : ℕ) (m : List ℕ) (fs : List Field) : Type 0 where
-  pub above : last < t
-  pub allowed : field_allowed lcso (field t (part m a e)) ≡ true
-  pub rest : Filling lcso t (drop e m)
-  pub is : fs ≡ field t (part m a e) ∷ rest.fs
+-- the first of such fields is f; behind it are the others
+pub record First (lcso last k : ℕ) (f : Field) (m : List ℕ) (fs : List Field) : Type 0 where
+  pub above : last < f.tag
+  pub allowed : field_allowed lcso f ≡ true
+  pub rest : Filling lcso f.tag (drop (k + 2 + length f.value) m)
+  pub is : fs ≡ f ∷ rest.fs
 
 same_fronts : (x y b c : List ℕ) → length x ≡ length y → x ++ b ≡ y ++ c → (x ≡ y) × (b ≡ c)
 same_fronts x y b c l e = (
@@ -43,36 +40,36 @@ same_fronts x y b c l e = (
   sym (drop-append_seam x b) ∙ (λ i. drop (l i) (e i)) ∙ drop-append_seam y c,
 )
 
-first_of : (lcso last t a e : ℕ) (m : List ℕ) (fs : List Field) → t ∷ length (part m a e) ∷ part m a e ++ drop e m ≡ fields_bytes fs →
-    rising_from last (tags fs) ≡ true → fields_allowed lcso fs ≡ true → First lcso last t a e m fs
-unfolding fields_bytes rising_from fields_allowed field
-first_of lcso last t a e m [] b up ok = absurd (omega (arith, ap length b))
-first_of lcso last t a e m (g ∷ fs) b up ok =
-    let i : g.tag ≡ t = cc in
-    let (v, after) = same_fronts (part m a e) g.value (drop e m) (fields_bytes fs) (cc) (cc) in
-    let is : g ≡ field t (part m a e) = λ x. record { tag = i x; value = sym v x } in
+first_of : (lcso last k : ℕ) (f : Field) (m : List ℕ) (fs : List Field) →
+    f.tag ∷ length f.value ∷ f.value ++ drop (k + 2 + length f.value) m ≡ fields_bytes fs →
+    rising_from last (tags fs) ≡ true → fields_allowed lcso fs ≡ true → First lcso last k f m fs
+unfolding fields_bytes rising_from fields_allowed
+first_of lcso last k f m [] b up ok = absurd (omega (arith, ap length b))
+first_of lcso last k f m (g ∷ fs) b up ok =
+    let i : g.tag ≡ f.tag = cc in
+    let (v, after) = same_fronts f.value g.value (drop (k + 2 + length f.value) m) (fields_bytes fs) (cc) (cc) in
+    let is : g ≡ f = λ x. record { tag = i x; value = sym v x } in
     let up' = rw is at up in
     let ok' = rw is at ok in
     record {
-      above = ltb-true last t (and_left _ _ up');
+      above = ltb-true last f.tag (and_left _ _ up');
       allowed = and_left _ _ ok';
       rest = record {
         fs = fs;
         bytes = after;
-        rise = and_right (ltb last t) _ up';
-        allowed = and_right (field_allowed lcso (field t (part m a e))) _ ok';
+        rise = and_right (ltb last f.tag) _ up';
+        allowed = and_right (field_allowed lcso f) _ ok';
       };
       is = ap (λ x. x ∷ fs) is;
     }
 
-pub first : (lcso last k : ℕ) (m : List ℕ) (r : Next) → r ≡ field_at k m → (t a e : ℕ) → r ≡ next.Field t a e → (f : Filling lcso last (drop k m)) →
-    First lcso last t a e m f.fs
-first lcso last k m r told t a e h f = first_of lcso last t a e m f.fs (sym (here k m r told t a e h).bytes ∙ f.bytes) f.rise f.allowed
+pub first : (lcso last k : ℕ) (m : List ℕ) (f : Field) → field_at k m ≡ Some (Ok f) → (g : Filling lcso last (drop k m)) → First lcso last k f m g.fs
+first lcso last k m f stood g = first_of lcso last k f m g.fs (sym (bytes k m f stood) ∙ g.bytes) g.rise g.allowed
 
 -- where no field stands, there are none
-pub none_left : (k : ℕ) (m : List ℕ) (fs : List Field) → drop k m ≡ fields_bytes fs → ((t a e : ℕ) → field_at k m ≡ next.Field t a e → ⊥) → fs ≡ []
+pub none_left : (k : ℕ) (m : List ℕ) (fs : List Field) → drop k m ≡ fields_bytes fs → ((f : Field) → field_at k m ≡ Some (Ok f) → ⊥) → fs ≡ []
 none_left k m [] b n = refl
-none_left k m (f ∷ fs) b n = absurd (n _ _ _ (stands k m f fs b))
+none_left k m (f ∷ fs) b n = absurd (n f (stands k m f fs b))
 
 -- one of the four tags, for LcsO, change, read and execute
 abbrev pub Tag : ℕ → Type 0

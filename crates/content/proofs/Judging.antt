@@ -1,21 +1,20 @@
 -- Fields judged one after the other, as the loop of `content_allowed` does, and what that says of the rules' metadata.
 use Prim.Native.Nat.{ℕ, ◌-◌, ◌≤◌, ◌<◌}
 use mathlib.Core.Path.{◌≡◌, refl, sym, ap, ◌∙◌}
-use mathlib.Core.Bool.{Bool, true, false, not, false≢true}
+use mathlib.Core.Bool.{Bool, true, false, false≢true}
 use mathlib.Core.List.{List, [], ◌∷◌, ◌++◌}
 use native.Mathlib.Omega.{arith}
-use borrow.Author.Tests.{leb-true, le-leb, lt-ltb, not-true, not-false}
+use borrow.Author.Tests.{leb-true, le-leb, lt-ltb}
 use lib.ListN.{length, get_or, drop, length-drop, drop_of_length-le}
 use Rattle.rules.specs.Basic.{all, rising_from}
-use Rattle.rules.specs.Metadata.{Field, field, fields_bytes, led_by_20, read_fields, sent_fields, field_allowed, fields_allowed, metadata_allowed}
+use Rattle.rules.specs.Metadata.{field, fields_bytes, led_by_20, read_fields, sent_fields, field_allowed, fields_allowed, metadata_allowed}
 use Rattle.laws.proofs.Tests.{and_both, at_place, same_refl, same_eq}
 use Rattle.laws.proofs.Fields.{fields_read}
-use Rattle.record.specs.Records.{part}
-use Rattle.reader.specs.declared.Next.{Next}
-use Rattle.reader.specs.declared.Next.TheVariants.{End, Broken}
-use Rattle.reader.specs.declared.Next.TheVariants as next
-use Rattle.reader.specs.Content.{field_at, place_after}
-use Rattle.reader.proofs.Fields.{two, here, ended, broken, behind_field}
+use Rattle.std.specs.Prelude.{Option, Some, None, Result, Ok, Err}
+use Rattle.reader.specs.declared.Field as code
+use Rattle.reader.specs.declared.Malformed.{Malformed}
+use Rattle.reader.specs.Content.{told, seen, field_at, place_after}
+use Rattle.reader.proofs.Fields.{two, bytes, past, before, ended, broke, gave, passed}
 use Rattle.content.proofs.Filling.{Filling, First, first, none_left, few, from_zero, some_alike}
 
 -- w tells whether what is left at k is filled
@@ -27,44 +26,46 @@ refused : (w : Bool) → (w ≡ true → ⊥) → false ≡ w
 refused true n = absurd (n refl)
 refused false n = refl
 
-module _ (w : Bool) (lcso last k : ℕ) (m : List ℕ) (r : Next) (inv : Judged w lcso last k m) (told : r ≡ field_at k m) where
-  pub judged_end : r ≡ End → true ≡ w
+module _ (w : Bool) (lcso last k : ℕ) (m : List ℕ) (inv : Judged w lcso last k m) (r : Option (Result code.Field Malformed)) (is : seen r ≡ field_at k m) where
+  pub judged_end : r ≡ None → true ≡ w
   unfolding fields_bytes rising_from fields_allowed
-  judged_end h = sym (inv.back (record { fs = []; bytes = drop_of_length-le m (ended k m r told h); rise = refl; allowed = refl }))
+  judged_end h = sym (inv.back (record { fs = []; bytes = drop_of_length-le m (past k m (ended k m r is h)); rise = refl; allowed = refl }))
 
-  pub judged_broken : r ≡ Broken → false ≡ w
-  unfolding fields_bytes
-  judged_broken h = refused w (λ e.
-      let f = inv.to e in
-      let l = broken k m r told h in
-      let n = none_left k m f.fs f.bytes (λ t a e q. let z : ◌≡◌ {A = ℕ} 0 1 = cc in omega arith) in
-      omega (arith, length-drop k m, ap length (f.bytes ∙ ap fields_bytes n)))
+  module _ (n : Result code.Field Malformed) (some : r ≡ Some n) where
+    pub judged_malformed : (e : Malformed) → n ≡ Err e → false ≡ w
+    unfolding fields_bytes
+    judged_malformed e err = refused w (λ y.
+        let f = inv.to y in
+        let there = broke k m r is n some e err in
+        let none = none_left k m f.fs f.bytes (λ g q. let z : Some (Err e) ≡ Some (Ok g) = sym there ∙ q in cc) in
+        omega (arith, length-drop k m, ap length (f.bytes ∙ ap fields_bytes none), before k m e there))
 
-  module _ (t a e : ℕ) (h : r ≡ next.Field t a e) where
-    its_first : (y : w ≡ true) → First lcso last t a e m (inv.to y).fs
-    its_first y = first lcso last k m r told t a e h (inv.to y)
+    module _ (f : code.Field) (ok : n ≡ Ok f) where
+      its_first : (y : w ≡ true) → First lcso last k (told f) m (inv.to y).fs
+      its_first y = first lcso last k m (told f) (gave k m r is n some f ok) (inv.to y)
 
-    pub judged_falls : t ≤ last → false ≡ w
-    judged_falls l = refused w (λ e. omega (arith, (its_first e).above))
+      pub judged_falls : f.tag ≤ last → false ≡ w
+      unfolding field
+      judged_falls l = refused w (λ e. omega (arith, (its_first e).above))
 
-    module _ (ok : Bool) (l : last < t) (says : ok ≡ field_allowed lcso (field t (part m a e))) where
-      pub judged_refused : not ok ≡ true → false ≡ w
-      judged_refused n = refused w (λ y. false≢true (sym (not-true ok n) ∙ says ∙ (its_first y).allowed))
+      module _ (yes : Bool) (says : yes ≡ field_allowed lcso (told f)) where
+        pub judged_refused : yes ≡ false → false ≡ w
+        judged_refused n = refused w (λ y. false≢true (sym n ∙ says ∙ (its_first y).allowed))
 
-      pub judged_next : not ok ≡ false → (p : ℕ) → p ≡ place_after k m → Judged w lcso t p m
-      unfolding fields_bytes rising_from fields_allowed field
-      judged_next n p q =
-          let v = part m a e in
-          rw (q ∙ sym (behind_field k m r told t a e h))
-          (record {
-            to = λ y. (its_first y).rest;
-            back = λ f. inv.back (record {
-              fs = field t v ∷ f.fs;
-              bytes = (here k m r told t a e h).bytes ∙ ap (λ x. t ∷ length v ∷ v ++ x) f.bytes;
-              rise = and_both _ _ (lt-ltb last t l) f.rise;
-              allowed = and_both _ _ (sym says ∙ not-false ok n) f.allowed;
-            });
-          })
+        pub judged_next : last < f.tag → yes ≡ true → (p : ℕ) → p ≡ place_after k m → Judged w lcso f.tag p m
+        unfolding fields_bytes rising_from fields_allowed field
+        judged_next l t p q =
+            let stood = gave k m r is n some f ok in
+            rw (q ∙ passed k m (told f) stood)
+            (record {
+              to = λ y. (its_first y).rest;
+              back = λ g. inv.back (record {
+                fs = told f ∷ g.fs;
+                bytes = bytes k m (told f) stood ∙ ap (λ x. f.tag ∷ length f.value.now ∷ f.value.now ++ x) g.bytes;
+                rise = and_both _ _ (lt-ltb last f.tag l) g.rise;
+                allowed = and_both _ _ (sym says ∙ t) g.allowed;
+              });
+            })
 
 -- the rules' metadata ----------------------------------------------------------------------------------------------------------
 

@@ -10,7 +10,8 @@ use borrow.Author.Tests.{eqb-true, eq-eqb, ne_eqb, le-leb, ltb-true}
 use lib.Dec.{eqb, ltb, leb}
 use lib.ListN.{length, get_or, drop}
 use Rattle.rules.specs.declared.Slot.{Slot}
-use Rattle.std.specs.Prelude.{if◌then◌else◌}
+use Rattle.std.specs.Prelude as std
+use Rattle.std.specs.Prelude.{if◌then◌else◌, Some, None, Result, Ok, Err}
 use Rattle.rules.specs.Basic.{among, rising_from, is_some}
 use Rattle.rules.specs.Expression.{expression, read_expression, is_state, may_become}
 use Rattle.rules.specs.Object.{Object}
@@ -20,14 +21,13 @@ use Rattle.laws.proofs.Tests.{and_left, and_right}
 use Rattle.laws.proofs.Expressions.{expression_back}
 use Rattle.laws.proofs.Fitting.{fields_fit}
 use Rattle.record.specs.Places.{object_at, Stored, with_record}
-use Rattle.record.specs.Records.{part}
 use Rattle.change.specs.Change.{with_lcso, with_expressions, with_expression}
 use Rattle.change.proofs.Records.{read_allowed}
 use Rattle.change.proofs.Rewritten.{Rewritten, left_start, left_then}
-use Rattle.reader.specs.declared.Next.{Next}
-use Rattle.reader.specs.declared.Next.TheVariants as next
-use Rattle.reader.specs.Content.{field_at, place_after}
-use Rattle.reader.proofs.Fields.{behind_field}
+use Rattle.reader.specs.declared.Field as code
+use Rattle.reader.specs.declared.Malformed.{Malformed}
+use Rattle.reader.specs.Content.{told, seen, field_at, place_after}
+use Rattle.reader.proofs.Fields.{ended, broke, gave, passed}
 use Rattle.content.specs.Storing.{tag_slot}
 use Rattle.content.proofs.Filling.{tags, Filling, First, first, none_left, Tag, its_tag}
 use Rattle.content.proofs.Judging.{filling}
@@ -138,32 +138,38 @@ going_start p m b s h =
     record { lcso = _; last = 0; object = object_at p b; left = left_start p b s; rest = filling (object_at p b).lcso m h; comes_to = refl }
 
 module _ (p k : ℕ) (m b b1 : List ℕ) (g : Going p k m b b1) where
-  module _ (r : Next) (told : r ≡ field_at k m) where
-    pub going_end : ((t a e : ℕ) → r ≡ next.Field t a e → ⊥) → b1 ≡ with_record p (with_fields (sent_fields m) (object_at p b)) b
+  module _ (r : std.Option (Result code.Field Malformed)) (is : seen r ≡ field_at k m) where
+    going_over : ((f : Field) → field_at k m ≡ Some (Ok f) → ⊥) → b1 ≡ with_record p (with_fields (sent_fields m) (object_at p b)) b
     unfolding with_fields value_of sent_state sent_expression among
-    going_end o =
-        let n = none_left k m g.rest.fs g.rest.bytes (λ t a e q. o t a e (told ∙ q)) in
+    going_over o =
+        let n = none_left k m g.rest.fs g.rest.bytes o in
         g.left.bytes ∙ ap (λ x. with_record p x b) (ap (λ fs. with_fields fs g.object) (sym n) ∙ g.comes_to)
 
-    module _ (t a e : ℕ) (h : r ≡ next.Field t a e) where
-      this : First g.lcso g.last t a e m g.rest.fs
-      this = first g.lcso g.last k m r told t a e h g.rest
+    pub going_end : r ≡ None → b1 ≡ with_record p (with_fields (sent_fields m) (object_at p b)) b
+    going_end h = going_over (λ f q. let z : None ≡ Some (Ok f) = sym (ended k m r is h) ∙ q in cc)
 
-      pub going_allowed : field_allowed 0 (field t (part m a e)) ≡ true
-      going_allowed = allowed_low g.lcso (field t (part m a e)) this.allowed
+    pub going_malformed : (n : Result code.Field Malformed) → r ≡ Some n → (e : Malformed) → n ≡ Err e →
+        b1 ≡ with_record p (with_fields (sent_fields m) (object_at p b)) b
+    going_malformed n there e err = going_over (λ f q. let z : Some (Err e) ≡ Some (Ok f) = sym (broke k m r is n there e err) ∙ q in cc)
 
-      pub going_next : (b2 : List ℕ) → b2 ≡ with_record p (with_fields (field t (part m a e) ∷ []) (object_at p b1)) b1 →
+    module _ (n : Result code.Field Malformed) (some : r ≡ Some n) (f : code.Field) (ok : n ≡ Ok f) where
+      this : First g.lcso g.last k (told f) m g.rest.fs
+      this = first g.lcso g.last k m (told f) (gave k m r is n some f ok) g.rest
+
+      pub going_allowed : field_allowed 0 (told f) ≡ true
+      going_allowed = allowed_low g.lcso (told f) this.allowed
+
+      pub going_next : (b2 : List ℕ) → b2 ≡ with_record p (with_fields (told f ∷ []) (object_at p b1)) b1 →
           (j : ℕ) → j ≡ place_after k m → Going p j m b b2
       going_next b2 q j behind =
-          let f = field t (part m a e) in
-          rw (behind ∙ sym (behind_field k m r told t a e h))
+          rw (behind ∙ passed k m (told f) (gave k m r is n some f ok))
           (record {
             lcso = g.lcso;
-            last = t;
-            object = with_fields (f ∷ []) g.object;
-            left = left_field t (part m a e) going_allowed p b g.object b1 b2 g.left q;
+            last = (told f).tag;
+            object = with_fields (told f ∷ []) g.object;
+            left = left_field f.tag f.value.now going_allowed p b g.object b1 b2 g.left q;
             rest = this.rest;
             comes_to =
-                fields_in_turn f this.rest.fs (unfold field in this.rest.rise) g.object ∙
+                fields_in_turn (told f) this.rest.fs this.rest.rise g.object ∙
                 ap (λ x. with_fields x g.object) (sym this.is) ∙ g.comes_to;
           })

@@ -1,107 +1,67 @@
 // Metadata content that is sent in: judged, and stored.
 #![tactic(auto)]
 
-ghost use Rattle.std.specs.Prelude.{◌≡◌, true, [], ◌∷◌, ◌≤◌, length};
-ghost use Rattle.rules.specs.Basic.{among};
-ghost use Rattle.rules.specs.Metadata.{field, field_allowed, metadata_allowed, sent_fields};
+ghost use Rattle.std.specs.Prelude.{◌≡◌, true, [], ◌∷◌};
+ghost use Rattle.rules.specs.Metadata.{field_allowed, metadata_allowed, sent_fields};
 ghost use Rattle.record.specs.Places.{object_at, Stored};
-ghost use Rattle.record.specs.Records.{part};
+ghost use Rattle.reader.specs.Content.{told};
 ghost use Rattle.content.specs.Storing.{stored_fields, tag_slot};
 
-use reader::Next;
+use reader::{Field, Malformed, MetadataReader};
 use rules::{CHANGE_TAG, EXECUTE_TAG, READ_TAG, STATE_TAG, Slot};
 
-fn is_expression_tag(tag: u8) -> bool
-    ensures { result ≡ among (0xD0 ∷ 0xD1 ∷ 0xD3 ∷ []) tag }
+// Whether an object at this LcsO takes a field.
+#[tactic(auto, unfolding(rules::specs::Metadata::field_allowed, rules::specs::Metadata::field, rules::specs::Basic::among))]
+fn field_allowed(field: Field, lcso: u8) -> bool
+    ensures { result ≡ field_allowed lcso (told field.entry) }
 {
-    if tag == CHANGE_TAG {
-        return true;
+    match field.tag {
+        STATE_TAG => field.value.len() == 1 && expression::may_become(lcso, field.value[0]),
+        CHANGE_TAG | READ_TAG | EXECUTE_TAG => expression::well_formed(field.value),
+        _ => false,
     }
-    if tag == READ_TAG {
-        return true;
-    }
-    tag == EXECUTE_TAG
-}
-
-// Of the field whose value is content[start..end].
-fn field_allowed(content: &[u8], tag: u8, start: usize, end: usize, lcso: u8) -> bool
-    requires { (start ≤ end) × (end ≤ length content.now) }
-    ensures { result ≡ field_allowed lcso (field tag (part content.now start end)) }
-{
-    let value = &content[start..end];
-    if tag == STATE_TAG {
-        if value.len() != 1 {
-            return false;
-        }
-        let state = value[0];
-        return expression::may_become(lcso, state);
-    }
-    if !is_expression_tag(tag) {
-        return false;
-    }
-    expression::well_formed(value)
 }
 
 // Whether an object at this LcsO takes the content: each of its fields is judged before any is stored.
 pub fn content_allowed(content: &[u8], lcso: u8) -> bool
     ensures { result ≡ metadata_allowed lcso content.now }
 {
-    if content.len() <= 2 {
+    if content.len() <= 2 || content[0] != 0x20 || content[1] as usize != content.len() - 2 {
         return false;
     }
-    if content[0] != 0x20 {
-        return false;
-    }
-    if content[1] as usize != content.len() - 2 {
-        return false;
-    }
-    let mut at: usize = 2;
-    let mut last: u8 = 0;
-    loop {
-        let step = reader::step_from(content, at);
-        let next = step.next;
+    let mut reader = MetadataReader::new(content, 2);
+    let mut last = 0;
+    while let Some(next) = reader.advance() {
         match next {
-            Next::Field { tag, start, end } => {
-                if tag <= last {
-                    return false;
-                }
-                if !field_allowed(content, tag, start, end, lcso) {
-                    return false;
-                }
-                last = tag;
-                at = step.at;
-            }
-            Next::End => return true,
-            Next::Broken => return false,
+            Ok(field) if last < field.tag && field_allowed(field, lcso) => last = field.tag,
+            Ok(_) => return false,
+            Err(Malformed) => return false,
         }
     }
+    true
 }
 
 // The slot of an expression's tag.
+#[tactic(auto, unfolding(crate::specs::Storing::tag_slot))]
 fn slot_of(tag: u8) -> Slot
     ensures { result ≡ tag_slot tag }
 {
-    if tag == CHANGE_TAG {
-        return Slot::Change;
+    match tag {
+        CHANGE_TAG => Slot::Change,
+        READ_TAG => Slot::Read,
+        _ => Slot::Execute,
     }
-    if tag == READ_TAG {
-        return Slot::Read;
-    }
-    Slot::Execute
 }
 
-// Stores the field whose value is content[start..end]; that an LcsO does not fall is judged before.
-fn store_field(store: &mut [u8], at: usize, content: &[u8], tag: u8, start: usize, end: usize)
-    requires { Stored at store.old × (start ≤ end) × (end ≤ length content.now)
-        × (field_allowed 0 (field tag (part content.now start end)) ≡ true) }
-    ensures { store.new ≡ stored_fields at (field tag (part content.now start end) ∷ []) store.old }
+// Stores a field; that an LcsO does not fall is judged before.
+fn store_field(store: &mut [u8], at: usize, field: Field)
+    requires { Stored at store.old × (field_allowed 0 (told field) ≡ true) }
+    ensures { store.new ≡ stored_fields at (told field.entry ∷ []) store.old }
 {
-    let value = &content[start..end];
-    if tag == STATE_TAG {
-        change::set_lcso(store, at, value[0]);
-        return;
+    match field.tag {
+        STATE_TAG => change::set_lcso(store, at, field.value[0]),
+        tag => change::set_expression(store, at, slot_of(tag), field.value),
     }
-    change::set_expression(store, at, slot_of(tag), value);
 }
 
 // Stores all fields of content that is allowed.
@@ -109,14 +69,11 @@ pub fn store_content(store: &mut [u8], at: usize, content: &[u8])
     requires { Stored at store.old × (metadata_allowed (object_at at store.old).lcso content.now ≡ true) }
     ensures { store.new ≡ stored_fields at (sent_fields content.now) store.old }
 {
-    let mut place: usize = 2;
-    loop {
-        let step = reader::step_from(content, place);
-        let next = step.next;
-        let Next::Field { tag, start, end } = next else {
+    let mut reader = MetadataReader::new(content, 2);
+    while let Some(next) = reader.advance() {
+        let Ok(field) = next else {
             return;
         };
-        store_field(store, at, content, tag, start, end);
-        place = step.at;
+        store_field(store, at, field);
     }
 }

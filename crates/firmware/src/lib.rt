@@ -13,6 +13,7 @@ ghost use Rattle.firmware.specs.Host.{session_of, opened_byte, bytes_of, left, H
 ghost use Rattle.firmware.specs.Lists.{all_fit, HostRun};
 
 use dock::{HostFed, HostStream};
+use factory::WrongSize;
 use frames::Kind;
 use rules::Session;
 
@@ -189,7 +190,10 @@ pub extern "C" fn element_check_store(store: &[u8]) -> bool
 pub extern "C" fn element_make_factory_store(store: &mut [u8]) -> u8
     ensures { (result ≡ factory_outcome store.old) × (store.new ≡ factory_made store.old) }
 {
-    factory::make_factory_store(store)
+    match factory::make_factory_store(store) {
+        Ok(()) => 0,
+        Err(WrongSize) => 2,
+    }
 }
 
 // A new session: as the rules give it, in bytes that were 0.

@@ -106,25 +106,25 @@ led input at h =
     rw (past, add-one, drop-cons input at 0 (omega arith), drop-cons input (suc at) 0 (omega arith))
 
 -- the loop of `put_lines`
-module _ (input all o₀ store o : List ℕ) (s : Session) (at next : ℕ) (w : Onward 0 all o₀ next (lines_of (drop at input) store s) o) where
+module _ (input all o₀ store o : List ℕ) (s : Session) (at₀ at next : ℕ) (w : Onward at₀ all o₀ next (lines_of (drop at input) store s) o) where
   module _ (size : ℕ) (e : size ≡ big_endian_at at input) (h : 2 ≤ length input - at) where
     pub lines_on : (o₁ store₁ : List ℕ) (s₁ : Session) (n₁ : ℕ) → size ≤ length input - at - 2 →
         let a = step (take (at + 2 + size - (at + 2)) (drop (at + 2) input)) (zeros 1504) store s in
         Put next (answer_line a) o o₁ n₁ → store₁ ≡ a.store → s₁ ≡ a.session
-        → Onward 0 all o₀ n₁ (lines_of (drop (at + 2 + size) input) store₁ s₁) o₁
+        → Onward at₀ all o₀ n₁ (lines_of (drop (at + 2 + size) input) store₁ s₁) o₁
     lines_on o₁ store₁ s₁ n₁ k p f g =
         let within : 256 * get_or input at 0 + get_or input (at + 1) 0 ≤ length (drop (at + 2) input) = simp length-drop (omega arith) in
         onward w p (rw (led input at h, one_line (get_or input at 0) _ _ store s within, f, g, add-sub_cancel_left (at + 2) size, e, drop-drop))
 
-    pub lines_cut : (o₁ : List ℕ) (n₁ : ℕ) → length input - at - 2 < size → Put next (line (ascii "cut")) o o₁ n₁ → Put 0 all o₀ o₁ n₁
+    pub lines_cut : (o₁ : List ℕ) (n₁ : ℕ) → length input - at - 2 < size → Put next (line (ascii "cut")) o o₁ n₁ → Put at₀ all o₀ o₁ n₁
     lines_cut o₁ n₁ k p =
         onward_last w p (rw (led input at h) (no_line (get_or input at 0) (get_or input (at + 1) 0) (drop (at + 2) input) store s (simp length-drop (omega arith))))
 
-  pub length_cut : (o₁ : List ℕ) (n₁ : ℕ) → at < length input → length input - at < 2 → Put next (line (ascii "cut")) o o₁ n₁ → Put 0 all o₀ o₁ n₁
+  pub length_cut : (o₁ : List ℕ) (n₁ : ℕ) → at < length input → length input - at < 2 → Put next (line (ascii "cut")) o o₁ n₁ → Put at₀ all o₀ o₁ n₁
   unfolding lines
   length_cut o₁ n₁ h k p = onward_last w p (rw (drop-cons input at 0 h, drop_of_length-le input {i = suc at} (omega arith)))
 
-  pub lines_end : length input ≤ at → next ≤ length o → Put 0 all o₀ o next
+  pub lines_end : length input ≤ at → next ≤ length o → Put at₀ all o₀ o next
   unfolding lines
   lines_end h k = onward_end w (rw (drop_of_length-le input h)) k
 

@@ -22,9 +22,6 @@ pub record Put (at : ℕ) (text output after : List ℕ) (next : ℕ) : Type 0 w
 abbrev pub Slice : Type 0
 Slice = Both (MutBor (List ℕ)) (MutBor (List ℕ))
 
-abbrev pub Puts : ℕ → List ℕ → Slice → ℕ → Type 0
-Puts at text output next = Put at text output.entry.now output.exit.now next
-
 -- as much of a text as fits stands in front of the output: n bytes
 abbrev pub Shows : List ℕ → Slice → ℕ → Type 0
 Shows text output n = (n ≡ shown_size text output.entry.now) × (output.exit.now ≡ in_front text output.entry.now)

@@ -9,12 +9,12 @@ ghost use Rattle.primitives.specs.Bytes.{over};
 use rules::Length;
 
 // Status FF: refused.
+#[tactic(auto, using(crate::proofs::Begun::front_by), unfolding(rules::specs::Response::refused_response))]
 pub fn refuse(room: &mut [u8])
     requires { 4 ≤ length room.old }
     ensures { room.new ≡ put_in_front refused_response room.old }
 {
-    let response = [0xFF, 0, 0, 0];
-    primitives::put(room, 0, &response);
+    primitives::put(room, 0, &[0xFF, 0, 0, 0]);
 }
 
 // Status 00 and OutLen; the answer's bytes are put right behind them.
@@ -22,12 +22,12 @@ pub fn head(room: &mut [u8], answer: Length)
     requires { (4 ≤ length room.old) × (answer.0 < 65536) }
     ensures { room.new ≡ over 0 (0 ∷ 0 ∷ big_endian answer.0) room.old }
 {
-    let n = answer.0;
-    let bytes = [0, 0, (n / 256) as u8, (n % 256) as u8];
-    primitives::put(room, 0, &bytes);
+    let [high, low] = (answer.0 as u16).to_be_bytes();
+    primitives::put(room, 0, &[0, 0, high, low]);
 }
 
 // Done, with nothing to say: four zeros.
+#[tactic(auto, using(crate::proofs::Begun::front_by), unfolding(rules::specs::Response::done_response))]
 pub fn done(room: &mut [u8])
     requires { 4 ≤ length room.old }
     ensures { room.new ≡ put_in_front (done_response []) room.old }
@@ -36,6 +36,7 @@ pub fn done(room: &mut [u8])
 }
 
 // Done, with all of out.
+#[tactic(auto, using(crate::proofs::Begun::head_then))]
 pub fn answer(room: &mut [u8], out: &[u8])
     requires { (4 + length out.now ≤ length room.old) × (length out.now < 65536) }
     ensures { room.new ≡ put_in_front (done_response out.now) room.old }

@@ -5,7 +5,7 @@ use mathlib.Core.List.{List, [], ◌∷◌, ◌++◌, map, flat_map, append-nil,
 use native.Mathlib.Nat.{add-zero, sub-zero, add-sub_cancel_left}
 use native.Mathlib.Numerals.{add-one}
 use native.Mathlib.Omega.{arith}
-use lib.ListN.{length, get_or, take, drop, set, length-append, length-drop, length-set, take-append-drop, get_or-eq_default, length-take}
+use lib.ListN.{length, get_or, take, drop, set, length-append, length-drop, length-set, take-append-drop, length-take}
 use lib.Seq.{take_at, drop_at, drop-drop, get_or-drop, take-suc-set, length-take-le, take_all}
 use Rattle.mixing.specs.Runs.{answers, end}
 use Rattle.rules.specs.declared.Session.{Session}
@@ -16,10 +16,6 @@ use Rattle.primitives.specs.Bytes.{over}
 use Rattle.element.specs.declared.Answer.{Answer}
 use Rattle.element.specs.Executed.{executed, Executes}
 use Rattle.runs.specs.Lists.{Lent, Returned, width, cut, behind, by_rules, returned, told, in_place}
-
--- `fitted`
-pub no_size : (sizes : List ℕ) (i w : ℕ) → length sizes ≤ i → 0 ≡ min (get_or sizes i 0) w
-no_size sizes i w h = rw (get_or-eq_default sizes 0 h) (omega arith)
 
 -- `turn`: a room lent as a part of all rooms, put back
 module _ (commands rooms store : List ℕ) (session : Session) (at n to m : ℕ) (fits : to + m ≤ length rooms) where
@@ -99,7 +95,7 @@ loop_entered l h =
     search arith
 
 module _ (l : Lent) (store rooms outcomes : List ℕ) (session : Session) (at to i : ℕ) (inv : Loop l store rooms outcomes session at to i) where
-  pub loop_again : (n m : ℕ) (r : Answer) (store' rooms' : List ℕ) → i < length outcomes
+  pub loop_again : (n m : ℕ) (r : Answer) (store' rooms' : List ℕ) → i < length l.outcomes
       → n ≡ min (get_or l.sizes i 0) (length l.commands - at) → m ≡ min (get_or l.spaces i 0) (length rooms - to)
       → executed r rooms' store' ≡ in_place to rooms (told l.commands rooms store session at n to m)
       → length store' ≡ length store → length rooms' ≡ length rooms
@@ -107,14 +103,14 @@ module _ (l : Lent) (store rooms outcomes : List ℕ) (session : Session) (at to
   loop_again n m r store' rooms' h en em e ls lr =
       let same : pending l store' rooms' (set outcomes i r.outcome) r.session (at + n) (to + m) (i + 1) ≡ by_rules l =
       ap (λ (b : After). pending l b.store b.room (set outcomes i b.outcome) b.session (at + n) (to + m) (i + 1)) e
-      ∙ turned l store rooms outcomes session at to i n m h (omega arith) en em ∙ inv.same in
+      ∙ turned l store rooms outcomes session at to i n m (omega arith) (omega arith) en em ∙ inv.same in
       let kept : length (set outcomes i r.outcome) ≡ length outcomes = length-set outcomes i r.outcome in
       search arith
 
-  pub loop_over : length outcomes ≤ i → returned rooms outcomes store session ≡ by_rules l
+  pub loop_over : length l.outcomes ≤ i → returned rooms outcomes store session ≡ by_rules l
   unfolding ahead run cut behind answers end flat_map
   loop_over h =
       let none_left : length outcomes - i ≡ 0 = omega arith in
       let ended : returned rooms outcomes store session ≡ pending l store rooms outcomes session at to i =
-      rw (none_left, append-nil, take_all i outcomes h, take-append-drop) in
+      rw (none_left, append-nil, take_all i outcomes (omega arith), take-append-drop) in
       ended ∙ inv.same

@@ -13,10 +13,7 @@ use rules::Session;
 fn fitted(sizes: &[usize], i: usize, left: usize) -> usize
     ensures { result ≡ min (get_or sizes.now i 0) left }
 {
-    if i < sizes.len() {
-        return primitives::min(sizes[i], left);
-    }
-    0
+    sizes.get(i).copied().unwrap_or(0).min(left)
 }
 
 // The command of n bytes at `at`, in the room of m bytes at `to`.
@@ -54,18 +51,16 @@ pub fn run(
     ensures { IsRun (called commands sizes store session rooms spaces outcomes result) }
 {
     let mut kept = session;
-    let mut at: usize = 0;
-    let mut to: usize = 0;
-    let mut i: usize = 0;
-    while i < outcomes.len() {
+    let mut at = 0;
+    let mut to = 0;
+    for i in 0..outcomes.len() {
         let n = fitted(sizes, i, commands.len() - at);
         let m = fitted(spaces, i, rooms.len() - to);
         let answer = turn(commands, at, n, store, kept, rooms, to, m);
         outcomes[i] = answer.outcome;
         kept = answer.session;
-        at = at + n;
-        to = to + m;
-        i = i + 1;
+        at += n;
+        to += m;
     }
     kept
 }

@@ -2,62 +2,47 @@
 #![tactic(auto)]
 
 ghost use Rattle.std.specs.Prelude.{◌≡◌};
-ghost use Rattle.rules.specs.Session.{with_opened, with_lcsg, with_lcsa, with_error, with_state};
+ghost use Rattle.rules.specs.Session.{with_opened, with_error, with_state};
 ghost use Rattle.rules.specs.Step.{raised};
 
 use rules::{ObjectNumber, Session};
 
+#[tactic(auto, unfolding(rules::specs::Session::with_opened))]
 pub fn with_opened(opened: bool, session: Session) -> Session
     ensures { result ≡ with_opened opened session }
 {
-    let mut next = session;
-    next.opened = opened;
-    next
+    Session { opened, ..session }
 }
 
-fn with_lcsg(state: u8, session: Session) -> Session
-    ensures { result ≡ with_lcsg state session }
-{
-    let mut next = session;
-    next.lcsg = state;
-    next
-}
-
-fn with_lcsa(state: u8, session: Session) -> Session
-    ensures { result ≡ with_lcsa state session }
-{
-    let mut next = session;
-    next.lcsa = state;
-    next
-}
-
+#[tactic(auto, unfolding(rules::specs::Session::with_error))]
 pub fn with_error(error: u8, session: Session) -> Session
     ensures { result ≡ with_error error session }
 {
-    let mut next = session;
-    next.error = error;
-    next
+    Session { error, ..session }
 }
 
 // A life cycle written, where the number is that of one.
+#[tactic(auto, unfolding(rules::specs::Session::with_state, rules::specs::Session::with_lcsg, rules::specs::Session::with_lcsa))]
 pub fn with_state(number: ObjectNumber, state: u8, session: Session) -> Session
     ensures { result ≡ with_state number.0 state session }
 {
-    if number.0 == 0xE0C0 {
-        return with_lcsg(state, session);
+    match number.0 {
+        0xE0C0 => Session {
+            lcsg: state,
+            ..session
+        },
+        0xF1C0 => Session {
+            lcsa: state,
+            ..session
+        },
+        _ => session,
     }
-    if number.0 == 0xF1C0 {
-        return with_lcsa(state, session);
-    }
-    session
 }
 
 // The larger error is kept.
+#[tactic(auto, unfolding(rules::specs::Step::raised))]
 pub fn raised(code: u8, session: Session) -> Session
     ensures { result ≡ raised code session }
 {
-    if session.error < code {
-        return with_error(code, session);
-    }
-    session
+    with_error(session.error.max(code), session)
 }

@@ -1,38 +1,36 @@
 -- What is left to judge is whether the rest is filled with fields whose tags are above the last.
-use Rattle.reader.proofs.Fields.{value_counted, value_inside, less_left}
-use Rattle.content.proofs.Judging.{judged_end, judged_broken, judged_falls, judged_refused, judged_next}
+use Rattle.reader.proofs.Fields.{less_left}
+use Rattle.content.proofs.Judging.{judged_end, judged_malformed, judged_falls, judged_refused, judged_next}
 use Rattle.content.proofs.Judging.{too_short, not_led, not_filling, by_fields}
+use Rattle.content.proofs.content_allowed.Goals.{then-content-le2-via-then-content-le2, then-content-le2-via-else-content-le2+then-content-ne32}
+use Rattle.content.proofs.content_allowed.Goals.{then-content-le2-via-else-content-le2+else-content-ne32+then-content}
 use Rattle.content.proofs.content_allowed.Goals as goal
 
 pub returns-then-content-le2 : goal.returns-then-content-le2
-returns-then-content-le2 c = search too_short
+returns-then-content-le2 c =
+    elim c.then-content-le2.branch [
+      | then-content-le2-via-then-content-le2 w ↦ search too_short
+      | then-content-le2-via-else-content-le2+then-content-ne32 w ↦ search not_led
+      | then-content-le2-via-else-content-le2+else-content-ne32+then-content w ↦ search not_filling
+    ]
 
-pub returns-then-content-ne32 : goal.returns-then-content-ne32
-returns-then-content-ne32 c = search not_led
+pub loop-next-init : goal.loop-next-init
+loop-next-init c = rw (c.new-reader.ensures.0, c.new-reader.ensures.1) (search by_fields)
 
-pub returns-then-content : goal.returns-then-content
-returns-then-content c = search not_filling
+pub returns-in-Ok-2 : goal.returns-in-Ok-2
+returns-in-Ok-2 c = search judged_refused
 
-pub loop-tag-init : goal.loop-tag-init
-loop-tag-init c = search by_fields
+pub returns-in-Ok-2-2 : goal.returns-in-Ok-2-2
+returns-in-Ok-2-2 c = search judged_falls
 
-pub returns-then-tag-last : goal.returns-then-tag-last
-returns-then-tag-last c = search judged_falls
+pub returns-in-Err : goal.returns-in-Err
+returns-in-Err c = search judged_malformed
 
-pub field_allowed-requires : goal.field_allowed-requires
-field_allowed-requires c = (search value_counted, search value_inside)
+pub loop-next-smaller : goal.loop-next-smaller
+loop-next-smaller c = rw c.advance.ensures.1 (search less_left)
 
-pub returns-then-not-field_allowed : goal.returns-then-not-field_allowed
-returns-then-not-field_allowed c = search judged_refused
+pub loop-next-preserved : goal.loop-next-preserved
+loop-next-preserved c = rw c.advance.ensures.1 (search judged_next)
 
-pub loop-tag-smaller : goal.loop-tag-smaller
-loop-tag-smaller c = search less_left
-
-pub loop-tag-preserved : goal.loop-tag-preserved
-loop-tag-preserved c = search judged_next
-
-pub returns-in-End : goal.returns-in-End
-returns-in-End c = search judged_end
-
-pub returns-in-Broken : goal.returns-in-Broken
-returns-in-Broken c = search judged_broken
+pub returns : goal.returns
+returns c = search judged_end

@@ -4,8 +4,8 @@ use Rattle.rules.specs.Metadata.{metadata_allowed}
 use Rattle.content.proofs.Judging.{Judged}
 use Rattle.content.proofs.content_allowed.Given as goal
 
-abbrev pub invariant-loop-tag : goal.invariant-loop-tag
-invariant-loop-tag l = Judged (metadata_allowed l.lcso l.content) l.lcso l.last l.at l.content
+abbrev pub invariant-loop-next : goal.invariant-loop-next
+invariant-loop-next l = Judged (metadata_allowed l.lcso l.content) l.lcso l.last l.reader.at l.reader.content.now
 
-abbrev pub decreases-loop-tag : goal.decreases-loop-tag
-decreases-loop-tag l = length l.content - l.at
+abbrev pub decreases-loop-next : goal.decreases-loop-next
+decreases-loop-next l = length l.reader.content.now - l.reader.at

@@ -1,23 +1,24 @@
 -- Up to the place, the fields are stored.
-use Rattle.reader.proofs.Fields.{value_counted, value_inside, less_left}
-use Rattle.change.proofs.Rewritten.{left_length, left_stored}
-use Rattle.content.proofs.Storing.{going_start, going_allowed, going_next, going_end}
+use mathlib.Core.Path.{refl, sym}
+use Rattle.reader.proofs.Fields.{less_left}
+use Rattle.change.proofs.Rewritten.{left_stored}
+use Rattle.content.proofs.Storing.{going_start, going_allowed, going_next, going_end, going_malformed}
 use Rattle.content.proofs.store_content.Goals as goal
 
-pub loop-tag-init : goal.loop-tag-init
-loop-tag-init c = search going_start
+pub loop-next-init : goal.loop-next-init
+loop-next-init c = rw (c.new-reader.ensures.0, c.new-reader.ensures.1) (refl, search going_start)
 
-pub shape_of-store-in_default : goal.shape_of-store-in_default
-shape_of-store-in_default c = search left_length
+pub returns-in_default-next : goal.returns-in_default-next
+returns-in_default-next c = rw (sym c.loop-next.invariant.0) (search going_malformed)
 
-pub returns-in_default : goal.returns-in_default
-returns-in_default c = search going_end
+pub returns : goal.returns
+returns c = rw (sym c.loop-next.invariant.0) (search going_end)
 
 pub store_field-requires : goal.store_field-requires
-store_field-requires c = (search left_stored, search value_counted, search value_inside, search going_allowed)
+store_field-requires c = (search left_stored, search going_allowed)
 
-pub loop-tag-smaller : goal.loop-tag-smaller
-loop-tag-smaller c = search less_left
+pub loop-next-smaller : goal.loop-next-smaller
+loop-next-smaller c = rw c.advance.ensures.1 (search less_left)
 
-pub loop-tag-preserved : goal.loop-tag-preserved
-loop-tag-preserved c = search going_next
+pub loop-next-preserved : goal.loop-next-preserved
+loop-next-preserved c = rw c.advance.ensures.1 (c.loop-next.invariant.0, search going_next)

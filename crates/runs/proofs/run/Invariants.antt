@@ -1,11 +1,6 @@
-use Prim.Native.Nat.{◌-◌}
-use lib.ListN.{length}
 use Rattle.runs.specs.Lists.{lent}
 use Rattle.runs.proofs.Cutting.{Loop}
 use Rattle.runs.proofs.run.Given as goal
 
 abbrev pub invariant-loop-i : goal.invariant-loop-i
 invariant-loop-i l = Loop (lent l.commands l.sizes l.initial.rooms l.spaces l.initial.outcomes l.initial.store l.initial.kept) l.store l.rooms l.outcomes l.kept l.at l.to l.i
-
-abbrev pub decreases-loop-i : goal.decreases-loop-i
-decreases-loop-i l = length l.outcomes - l.i

@@ -1,6 +1,0 @@
--- `put_pair`: two digits, one after the other.
-use Rattle.listing.proofs.Digits.{pair_put}
-use Rattle.listing.proofs.put_pair.Goals as goal
-
-pub returns : goal.returns
-returns c = search pair_put
