@@ -24,9 +24,9 @@ use Rattle.frames.specs.Frames.{longest, in_frame, judged}
 use Rattle.frames.specs.contracts.Step.{the_type}
 use Rattle.dock.specs.declared.Stream.{Stream}
 use Rattle.dock.specs.declared.Stream.TheVariants.{Collecting, Stopped as Stays}
-use Rattle.dock.specs.declared.Part.{Part}
+use Rattle.dock.specs.declared.Fed.{Fed}
 use Rattle.dock.specs.Held.{Feeding, step_of, stream_after, buffer_after, resting, fed, whole_or, feeding_from}
-use Rattle.dock.specs.Parts.{Parting, reach, parted, judged_part, collecting_part, part}
+use Rattle.dock.specs.Parts.{reach, judged_part, collecting_part, part}
 use Rattle.dock.proofs.Stepping.{front_more}
 use Rattle.dock.proofs.Ahead.{Next, reached}
 use Rattle.dock.proofs.Parting.{put_fits}
@@ -179,7 +179,7 @@ part_fed i (Collecting n) buffer (b ∷ bs) size some = go (ltb n.0 longest) ref
     go false e = unfold collecting_part in rw e (past_room i n buffer b bs (ltb-false n.0 longest e))
 
 -- how much it takes
-record TakesPart (bs : List ℕ) (p : Parting) : Type 0 where
+record TakesPart (bs : List ℕ) (p : Feeding) : Type 0 where
   pub some : 0 < p.answer.taken
   pub most : p.answer.taken ≤ length bs
 
@@ -218,20 +218,30 @@ ends (Whole k n) a b e = refl
 ends (NotYet n) a b e = absurd (omega arith)
 ends (Stopped f) a b e = absurd (omega arith)
 
+-- the stream after a part is that after its step
+part_stream : (s : Stream) (buffer bs : List ℕ) → (part s buffer bs).answer.stream ≡ stream_after (part s buffer bs).answer.step
+unfolding part
+part_stream (Stays f) buffer bs = refl
+part_stream (Collecting n) buffer bs = go (ltb n.0 longest) refl
+  where
+    go : (t : Bool) → ltb n.0 longest ≡ t → (collecting_part n.0 buffer bs).answer.stream ≡ stream_after (collecting_part n.0 buffer bs).answer.step
+    go true e = unfold collecting_part judged_part in rw e refl
+    go false e = unfold collecting_part in rw e refl
+
 -- a part of what is left of a piece, with i bytes taken before it
-module _ (i : ℕ) (s : Stream) (buffer piece : List ℕ) (r : Part) (kept : List ℕ) (e : parted r kept ≡ part s buffer (take (length piece - i) (drop i piece)))
+module _ (i : ℕ) (s : Stream) (buffer piece : List ℕ) (r : Fed) (kept : List ℕ) (e : fed r kept ≡ part s buffer (take (length piece - i) (drop i piece)))
     (h : i < length piece) (size : length buffer ≡ longest) where
   rest_is : take (length piece - i) (drop i piece) ≡ drop i piece
   rest_is = part_to_end piece i
 
-  whole_is : parted r kept ≡ part s buffer (drop i piece)
+  whole_is : fed r kept ≡ part s buffer (drop i piece)
   whole_is = e ∙ ap (part s buffer) rest_is
 
   rest_some : 0 < length (drop i piece)
   rest_some = simp length-drop (omega arith)
 
   taken_is : r.taken ≡ (part s buffer (drop i piece)).answer.taken
-  taken_is = ap (λ (p : Parting). p.answer.taken) whole_is
+  taken_is = ap (λ (p : Feeding). p.answer.taken) whole_is
 
   taken_some : 0 < r.taken
   taken_some = omega (arith, taken_is, (part_takes s buffer (drop i piece) size rest_some).some)
@@ -240,15 +250,18 @@ module _ (i : ℕ) (s : Stream) (buffer piece : List ℕ) (r : Part) (kept : Lis
   taken_within = omega (arith, taken_is, (part_takes s buffer (drop i piece) size rest_some).most, length-drop i piece)
 
   pub kept_size : length kept ≡ longest
-  kept_size = ap (λ (p : Parting). length p.buffer) whole_is ∙ part_kept s buffer (drop i piece) size
+  kept_size = ap (λ (p : Feeding). length p.buffer) whole_is ∙ part_kept s buffer (drop i piece) size
 
   pub left_less : length piece - (i + r.taken) < length piece - i
   left_less = omega (arith, taken_some, taken_within)
 
-  module _ (w : Feeding) (inv : feeding_from i s buffer (drop i piece) ≡ w) (later : Stream) (l : later ≡ stream_after r.step) where
-    turn : whole_or r.step (fed (record { stream = later; step = r.step; taken = i + r.taken }) kept) (feeding_from (i + r.taken) later kept (drop (i + r.taken) piece)) ≡ w
+  module _ (w : Feeding) (inv : feeding_from i s buffer (drop i piece) ≡ w) where
+    later : r.stream ≡ stream_after r.step
+    later = rw (← whole_is) at (part_stream s buffer (drop i piece))
+
+    turn : whole_or r.step (fed (record { stream = r.stream; step = r.step; taken = i + r.taken }) kept) (feeding_from (i + r.taken) r.stream kept (drop (i + r.taken) piece)) ≡ w
     turn =
-        rw l (on_is ∙ sym (ap (λ (p : Parting). on_from i p.answer.step p.answer.taken p.buffer (drop p.answer.taken (drop i piece))) (sym whole_is))
+        rw later (on_is ∙ sym (ap (λ (p : Feeding). on_from i p.answer.step p.answer.taken p.buffer (drop p.answer.taken (drop i piece))) (sym whole_is))
         ∙ sym (part_fed i s buffer (drop i piece) size rest_some) ∙ inv)
       where
         on_is : whole_or r.step (fed (record { stream = stream_after r.step; step = r.step; taken = i + r.taken }) kept)
@@ -256,10 +269,10 @@ module _ (i : ℕ) (s : Stream) (buffer piece : List ℕ) (r : Part) (kept : Lis
             ≡ on_from i r.step r.taken kept (drop r.taken (drop i piece))
         on_is = unfold on_from in rw drop-drop
 
-    pub feed_on : ((k : Kind) (n : BodyLength) → r.step ≡ Whole k n → ⊥) → feeding_from (i + r.taken) later kept (drop (i + r.taken) piece) ≡ w
+    pub feed_on : ((k : Kind) (n : BodyLength) → r.step ≡ Whole k n → ⊥) → feeding_from (i + r.taken) r.stream kept (drop (i + r.taken) piece) ≡ w
     feed_on k = sym (goes_on r.step _ _ k) ∙ turn
 
-    pub feed_whole : OneOf (0 ∷ []) (tag_of the_type r.step) → fed (record { stream = later; step = r.step; taken = i + r.taken }) kept ≡ w
+    pub feed_whole : OneOf (0 ∷ []) (tag_of the_type r.step) → fed (record { stream = r.stream; step = r.step; taken = i + r.taken }) kept ≡ w
     feed_whole k = sym (ends r.step _ _ k) ∙ turn
 
 pub feed_end : (w : Feeding) (i : ℕ) (s : Stream) (buffer piece : List ℕ) (r : Step) → feeding_from i s buffer (drop i piece) ≡ w → length piece ≤ i → r ≡ resting s

@@ -9,14 +9,12 @@ use borrow.Author.Tests.{eq-eqb, le-ltb, ltb-true, ltb-false}
 use lib.Dec.{ltb}
 use lib.ListN.{length, take, drop, get_or, length-append}
 use lib.Seq.{take_at, get_or-append-add}
-use Rattle.std.specs.Prelude.{if◌then◌else◌}
+use Rattle.std.specs.Prelude.{Some, Ok, Err, if◌then◌else◌}
 use Rattle.rules.specs.Basic.{little_endian, little_endian_at}
 use Rattle.frames.specs.declared.Kind.{Kind}
 use Rattle.frames.specs.declared.Kind.TheVariants.{Command, Response}
-use Rattle.frames.specs.declared.NamedKind.TheVariants.{Known}
 use Rattle.frames.specs.declared.Step.TheVariants.{Whole, NotYet}
 use Rattle.frames.specs.declared.WriteRefusal.TheVariants.{BodyTooLong, RoomTooSmall}
-use Rattle.frames.specs.declared.Written.TheVariants.{Frame as Wrote, Refused}
 use Rattle.remainder.specs.Remainder.{remainder}
 use Rattle.frames.specs.Frames.{around, longest, longest_body, in_frame, in_body, kind_number, kind_numbered, unchecked, frame_bytes, body_at}
 use Rattle.frames.specs.Frames.{by_kind, judged_by_head, check_right, checked, judged, Writing, written, writing, written_number, HostWrites}
@@ -30,7 +28,7 @@ use Rattle.frames.proofs.Writing.{frame_length}
 low_whole : (n : ℕ) → n % 256 + 256 * (n / 256) ≡ n
 low_whole n = omega arith
 
-kind_back : (k : Kind) → kind_numbered (kind_number k) ≡ Known k
+kind_back : (k : Kind) → kind_numbered (kind_number k) ≡ Some k
 unfolding kind_numbered
 kind_back Command = refl
 kind_back Response = refl
@@ -65,7 +63,7 @@ module _ (k : Kind) (body : List ℕ) where
   unfolding frame_bytes unchecked body_at
   body_there = take_at body (little_endian (remainder (unchecked k body))) (length body) refl
 
-  kind_frame : by_kind (Known k) (frame_bytes k body) ≡ Whole k (in_body (length body))
+  kind_frame : by_kind (Some k) (frame_bytes k body) ≡ Whole k (in_body (length body))
   unfolding by_kind
   kind_frame =
       let n : length body + around - around ≡ length body = omega arith in
@@ -138,9 +136,9 @@ wrote_frame k body room after w = go (ltb longest_body (length body)) refl (ltb 
   where
     answered : Bool → Bool → Writing
     answered s t =
-        if s then written (Refused BodyTooLong) room else
-        (if t then written (Refused RoomTooSmall) room else
-        written (Wrote (in_frame (length body + around))) (frame_bytes k body ++ drop (length body + around) room))
+        if s then written (Err BodyTooLong) room else
+        (if t then written (Err RoomTooSmall) room else
+        written (Ok (in_frame (length body + around))) (frame_bytes k body ++ drop (length body + around) room))
 
     go : (s : Bool) → ltb longest_body (length body) ≡ s → (t : Bool) → 0 ≡ written_number (answered s t).answer → after ≡ (answered s t).room → WroteFrame k body after
     go true b t e h = let z : ◌≡◌ {A = ℕ} 0 1 = e in absurd (omega arith)

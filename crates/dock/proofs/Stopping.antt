@@ -9,7 +9,7 @@ use borrow.Author.Tests.{ltb-true, ltb-false}
 use lib.Dec.{ltb}
 use lib.ListN.{length, length-append}
 use Rattle.rules.specs.Basic.{little_endian_at}
-use Rattle.frames.specs.declared.NamedKind.TheVariants.{Known, Unknown}
+use Rattle.std.specs.Prelude.{Some, None}
 use Rattle.frames.specs.declared.Fault.{Fault}
 use Rattle.frames.specs.declared.Fault.TheVariants.{BadLength, UnknownKind, BadCheck}
 use Rattle.dock.specs.declared.Stream.{Stream}
@@ -73,7 +73,7 @@ module _ (bs : List ℕ) (b : ℕ) (g : Going bs) where
       go false h =
           let i : 4 ≤ length bs = ltb-false (length bs) 4 h in
           let k = g.kind_known i in
-          let c : Unknown ≡ Known k.0 = sym e ∙ ap kind_numbered (sym (number_front 2 bs (b ∷ []) i)) ∙ k.1 in
+          let c : None ≡ Some k.0 = sym e ∙ ap kind_numbered (sym (number_front 2 bs (b ∷ []) i)) ∙ k.1 in
           let z : ◌≡◌ {A = ℕ} 0 1 = cc in
           absurd (omega arith)
   in_time (no_end q l e n) = tt

@@ -12,8 +12,7 @@ use Rattle.std.specs.Prelude.{if◌then◌else◌}
 use Rattle.rules.specs.Basic.{little_endian_at}
 use Rattle.frames.specs.declared.FrameLength.{FrameLength}
 use Rattle.frames.specs.declared.Kind.{Kind}
-use Rattle.frames.specs.declared.NamedKind.{NamedKind}
-use Rattle.frames.specs.declared.NamedKind.TheVariants.{Known, Unknown}
+use Rattle.std.specs.Prelude.{Option, Some, None}
 use Rattle.frames.specs.declared.Fault.TheVariants.{BadLength, UnknownKind, BadCheck}
 use Rattle.frames.specs.declared.Step.{Step}
 use Rattle.frames.specs.declared.Step.TheVariants.{Whole, NotYet, Stopped}
@@ -41,22 +40,22 @@ pub data Judgment (bs : List ℕ) : Step → Type 0 where
   too_long : 2 ≤ length bs → longest < little_endian_at 0 bs → Judgment bs (Stopped BadLength)
   passed : 2 ≤ length bs → around ≤ little_endian_at 0 bs → little_endian_at 0 bs < length bs → Judgment bs (Stopped BadLength)
   no_kind : Good bs → length bs < 4 → Judgment bs (NotYet (in_frame (length bs)))
-  unknown : Good bs → 4 ≤ length bs → kind_numbered (little_endian_at 2 bs) ≡ Unknown → Judgment bs (Stopped UnknownKind)
-  no_end : {k : Kind} → Good bs → 4 ≤ length bs → kind_numbered (little_endian_at 2 bs) ≡ Known k → length bs < little_endian_at 0 bs → Judgment bs (NotYet (in_frame (length bs)))
-  whole : {k : Kind} → Good bs → 4 ≤ length bs → kind_numbered (little_endian_at 2 bs) ≡ Known k → length bs ≡ little_endian_at 0 bs → check_right bs ≡ true → Judgment bs (Whole k (in_body (length bs - around)))
-  bad_check : {k : Kind} → Good bs → 4 ≤ length bs → kind_numbered (little_endian_at 2 bs) ≡ Known k → length bs ≡ little_endian_at 0 bs → check_right bs ≡ false → Judgment bs (Stopped BadCheck)
+  unknown : Good bs → 4 ≤ length bs → kind_numbered (little_endian_at 2 bs) ≡ None → Judgment bs (Stopped UnknownKind)
+  no_end : {k : Kind} → Good bs → 4 ≤ length bs → kind_numbered (little_endian_at 2 bs) ≡ Some k → length bs < little_endian_at 0 bs → Judgment bs (NotYet (in_frame (length bs)))
+  whole : {k : Kind} → Good bs → 4 ≤ length bs → kind_numbered (little_endian_at 2 bs) ≡ Some k → length bs ≡ little_endian_at 0 bs → check_right bs ≡ true → Judgment bs (Whole k (in_body (length bs - around)))
+  bad_check : {k : Kind} → Good bs → 4 ≤ length bs → kind_numbered (little_endian_at 2 bs) ≡ Some k → length bs ≡ little_endian_at 0 bs → check_right bs ≡ false → Judgment bs (Stopped BadCheck)
 
-judgment_check : (bs : List ℕ) (k : Kind) (c : Bool) → Good bs → 4 ≤ length bs → kind_numbered (little_endian_at 2 bs) ≡ Known k → length bs ≡ little_endian_at 0 bs → check_right bs ≡ c
+judgment_check : (bs : List ℕ) (k : Kind) (c : Bool) → Good bs → 4 ≤ length bs → kind_numbered (little_endian_at 2 bs) ≡ Some k → length bs ≡ little_endian_at 0 bs → check_right bs ≡ c
     → Judgment bs (if c then Whole k (in_body (length bs - around)) else Stopped BadCheck)
 judgment_check bs k true g l e n c = whole g l e n c
 judgment_check bs k false g l e n c = bad_check g l e n c
 
-judgment_kind : (bs : List ℕ) (m : NamedKind) (t : Bool) → Good bs → 4 ≤ length bs → kind_numbered (little_endian_at 2 bs) ≡ m → ltb (length bs) (little_endian_at 0 bs) ≡ t
+judgment_kind : (bs : List ℕ) (m : Option Kind) (t : Bool) → Good bs → 4 ≤ length bs → kind_numbered (little_endian_at 2 bs) ≡ m → ltb (length bs) (little_endian_at 0 bs) ≡ t
     → Judgment bs (checked (by_kind m bs) bs)
 unfolding checked by_kind
-judgment_kind bs Unknown t g l e h = unknown g l e
-judgment_kind bs (Known k) true g l e h = rw h (no_end g l e (ltb-true (length bs) (little_endian_at 0 bs) h))
-judgment_kind bs (Known k) false g l e h = rw h (judgment_check bs k (check_right bs) g l e (omega (arith, ltb-false (length bs) (little_endian_at 0 bs) h)) refl)
+judgment_kind bs None t g l e h = unknown g l e
+judgment_kind bs (Some k) true g l e h = rw h (no_end g l e (ltb-true (length bs) (little_endian_at 0 bs) h))
+judgment_kind bs (Some k) false g l e h = rw h (judgment_check bs k (check_right bs) g l e (omega (arith, ltb-false (length bs) (little_endian_at 0 bs) h)) refl)
 
 judgment_head : (bs : List ℕ) (t₁ t₂ t₃ t₄ t₅ : Bool) → ltb (length bs) 2 ≡ t₁ → ltb (little_endian_at 0 bs) around ≡ t₂ → ltb longest (little_endian_at 0 bs) ≡ t₃
     → ltb (little_endian_at 0 bs) (length bs) ≡ t₄ → ltb (length bs) 4 ≡ t₅
@@ -129,7 +128,7 @@ judged_long bs l = long_stops (judgment bs) l
 
 pub record Going (bs : List ℕ) : Type 0 where
   pub length_good : 2 ≤ length bs → (around ≤ little_endian_at 0 bs) × (little_endian_at 0 bs ≤ longest) × (length bs < little_endian_at 0 bs)
-  pub kind_known : 4 ≤ length bs → (k : Kind) × (kind_numbered (little_endian_at 2 bs) ≡ Known k)
+  pub kind_known : 4 ≤ length bs → (k : Kind) × (kind_numbered (little_endian_at 2 bs) ≡ Some k)
 
 going_by : {bs : List ℕ} {s : Step} {n : FrameLength} → Judgment bs s → s ≡ NotYet n → Going bs
 going_by (no_length h) e = record { length_good = λ l. absurd (omega arith); kind_known = λ l. absurd (omega arith) }
@@ -156,7 +155,7 @@ module _ (p : List ℕ) (n : ℕ) (a : little_endian_at 0 p ≡ n) (least : arou
   kind_to_come l h =
       rw (le-ltb (length p) 2 l, a, le-ltb n around least, le-ltb longest n most, le-ltb n (length p) (omega arith), lt-ltb (length p) 4 h)
 
-  pub end_to_come : (k : Kind) → 4 ≤ length p → kind_numbered (little_endian_at 2 p) ≡ Known k → length p < n → judged p ≡ NotYet (in_frame (length p))
+  pub end_to_come : (k : Kind) → 4 ≤ length p → kind_numbered (little_endian_at 2 p) ≡ Some k → length p < n → judged p ≡ NotYet (in_frame (length p))
   unfolding judged judged_by_head checked by_kind
   end_to_come k l b h =
       rw (le-ltb (length p) 2 (omega arith), a, le-ltb n around least, le-ltb longest n most, le-ltb n (length p) (omega arith), le-ltb (length p) 4 l, b)
@@ -175,10 +174,10 @@ module _ (p : List ℕ) (n : ℕ) (a : little_endian_at 0 p ≡ n) (least : arou
   head_passed =
       rw (le-ltb (length p) 2 (omega arith), a, le-ltb n around least, le-ltb longest n most, le-ltb n (length p) within, le-ltb (length p) 4 there)
 
-  pub kind_stops : kind_numbered (little_endian_at 2 p) ≡ Unknown → judged p ≡ Stopped UnknownKind
+  pub kind_stops : kind_numbered (little_endian_at 2 p) ≡ None → judged p ≡ Stopped UnknownKind
   unfolding judged checked by_kind
   kind_stops e = rw (head_passed, e)
 
-  pub check_stops : (k : Kind) → kind_numbered (little_endian_at 2 p) ≡ Known k → n ≤ length p → check_right p ≡ false → judged p ≡ Stopped BadCheck
+  pub check_stops : (k : Kind) → kind_numbered (little_endian_at 2 p) ≡ Some k → n ≤ length p → check_right p ≡ false → judged p ≡ Stopped BadCheck
   unfolding judged checked by_kind
   check_stops k e h c = rw (head_passed, e, a, le-ltb (length p) n h, c)
