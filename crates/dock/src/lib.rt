@@ -11,14 +11,14 @@ ghost use Rattle.dock.specs.Parts.{next_judged, head_judged, reach, answered, co
 use frames::{AROUND, Fault, FrameLength, HEAD, LONGEST, Step};
 
 // A stream: the bytes collected of the present frame, which stand at the front of the lent bytes, or the fault that stopped it.
-#[derive(Clone, Copy)]
+#[derive(Clone, Copy, Debug, PartialEq, Eq)]
 pub enum Stream {
     Collecting(FrameLength),
     Stopped(Fault),
 }
 
 // What a piece brings: the stream after it, the answer to the last byte taken, and how many bytes were taken.
-#[derive(Clone, Copy)]
+#[derive(Clone, Copy, Debug, PartialEq, Eq)]
 pub struct Fed {
     pub stream: Stream,
     pub step: Step,
@@ -165,13 +165,15 @@ impl Stream {
     {
         let mut stream = self;
         let mut taken: usize = 0;
+        // A part is as long as its bytes say.
         while taken < piece.len() {
             let part = stream.take_part(frame, &piece[taken..]);
-            taken += part.taken;
-            if let Step::Whole(_, _) = part.step {
-                return Fed { taken, ..part };
-            }
             stream = part.stream;
+            taken += part.taken;
+            let Step::Whole(_, _) = part.step else {
+                continue;
+            };
+            return Fed { taken, ..part };
         }
         Fed {
             stream,
@@ -219,15 +221,19 @@ impl From<Fed> for HostFed {
 
     #[tactic(auto, unfolding(crate::specs::Host::host_fed, crate::specs::Host::host_told))]
     fn from(fed: Fed) -> HostFed {
-        let (kind, size) = match fed.step {
-            Step::Whole(kind, size) => (kind.into(), size.0),
-            Step::NotYet(_) | Step::Stopped(_) => (0, 0),
+        let no_frame = HostFed {
+            stream: fed.stream.into(),
+            kind: 0,
+            size: 0,
+            taken: fed.taken,
+        };
+        let Step::Whole(kind, size) = fed.step else {
+            return no_frame;
         };
         HostFed {
-            stream: fed.stream.into(),
-            kind,
-            size,
-            taken: fed.taken,
+            kind: kind.into(),
+            size: size.0,
+            ..no_frame
         }
     }
 }

@@ -1,6 +1,6 @@
 -- Frames written part by part.
 use Prim.Native.Nat.{ℕ, ◌+◌, ◌-◌, ◌≤◌}
-use mathlib.Core.Path.{◌≡◌, refl, ap, ◌∙◌}
+use mathlib.Core.Path.{◌≡◌, ap, ◌∙◌}
 use mathlib.Core.List.{List, ◌++◌}
 use native.Mathlib.Omega.{arith}
 use borrow.Author.Tests.{le-ltb}
@@ -12,7 +12,7 @@ use Rattle.primitives.proofs.Over.{over_over}
 use Rattle.frames.specs.declared.Kind.{Kind}
 use Rattle.std.specs.Prelude.{Ok}
 use Rattle.remainder.specs.Remainder.{remainder}
-use Rattle.frames.specs.Frames.{around, longest_body, in_frame, kind_number, unchecked, frame_bytes, written, writing}
+use Rattle.frames.specs.Frames.{around, longest_body, in_frame, unchecked, frame_bytes, written, writing}
 
 pub unchecked_length : (k : Kind) (body : List ℕ) → length (unchecked k body) ≡ length body + 4
 unfolding unchecked
@@ -25,16 +25,6 @@ frame_length k body = simp length-append (omega (arith, unchecked_length k body)
 front_over : (y xs : List ℕ) (n : ℕ) → length y ≡ n → over 0 y xs ≡ y ++ drop n xs
 unfolding over
 front_over y xs n e = let z : 0 + length y ≡ n = omega arith in ap (λ m. y ++ drop m xs) z
-
--- `write_unchecked`: length, kind and body one behind another
-pub unchecked_by : (k : Kind) (body room q₁ q₂ r : List ℕ) (n m : ℕ) → q₁ ≡ over 0 (little_endian n) room → q₂ ≡ over 2 (little_endian m) q₁ → r ≡ over 4 body q₂
-    → n ≡ length body + around → m ≡ kind_number k → length body + 4 ≤ length room → r ≡ over 0 (unchecked k body) room
-unfolding unchecked
-unchecked_by k body room q₁ q₂ r n m e₁ e₂ e₃ en em h =
-    let two : over 2 (little_endian m) (over 0 (little_endian n) room) ≡ over 0 (little_endian n ++ little_endian m) room =
-    over_over 0 2 (little_endian n) (little_endian m) room refl (omega arith) in
-    e₃ ∙ ap (over 4 body) (e₂ ∙ ap (over 2 (little_endian m)) e₁ ∙ two)
-    ∙ over_over 0 4 (little_endian n ++ little_endian m) body room refl (omega arith) ∙ rw (en, em)
 
 -- `write_frame`: the check of what stands before it
 pub frame_written : (k : Kind) (body room q r : List ℕ) → q ≡ over 0 (unchecked k body) room

@@ -29,49 +29,35 @@ wrote n = Ok (record { 0 = n })
 
 unfoldable pub same_kind : Kind → Kind → Bool
 same_kind Command Command = true
-same_kind Command Response = false
-same_kind Response Command = false
 same_kind Response Response = true
+same_kind k l = false
 
 unfoldable pub same_named : Option Kind → Option Kind → Bool
 same_named (Some k) (Some l) = same_kind k l
-same_named (Some k) None = false
-same_named None (Some l) = false
 same_named None None = true
+same_named m n = false
 
 unfoldable pub same_fault : Fault → Fault → Bool
 same_fault BadLength BadLength = true
-same_fault BadLength UnknownKind = false
-same_fault BadLength BadCheck = false
-same_fault UnknownKind BadLength = false
 same_fault UnknownKind UnknownKind = true
-same_fault UnknownKind BadCheck = false
-same_fault BadCheck BadLength = false
-same_fault BadCheck UnknownKind = false
 same_fault BadCheck BadCheck = true
+same_fault f g = false
 
 unfoldable pub same_step : Step → Step → Bool
 same_step (Whole k n) (Whole l m) = same_kind k l && eqb n.0 m.0
-same_step (Whole k n) (NotYet m) = false
-same_step (Whole k n) (Stopped g) = false
-same_step (NotYet n) (Whole l m) = false
 same_step (NotYet n) (NotYet m) = eqb n.0 m.0
-same_step (NotYet n) (Stopped g) = false
-same_step (Stopped f) (Whole l m) = false
-same_step (Stopped f) (NotYet m) = false
 same_step (Stopped f) (Stopped g) = same_fault f g
+same_step s t = false
 
 unfoldable pub same_refusal : WriteRefusal → WriteRefusal → Bool
 same_refusal BodyTooLong BodyTooLong = true
-same_refusal BodyTooLong RoomTooSmall = false
-same_refusal RoomTooSmall BodyTooLong = false
 same_refusal RoomTooSmall RoomTooSmall = true
+same_refusal r s = false
 
 unfoldable pub same_written : Result FrameLength WriteRefusal → Result FrameLength WriteRefusal → Bool
 same_written (Ok n) (Ok m) = eqb n.0 m.0
-same_written (Ok n) (Err s) = false
-same_written (Err r) (Ok m) = false
 same_written (Err r) (Err s) = same_refusal r s
+same_written w v = false
 
 -- cases ------------------------------------------------------------------------------------------------------------------
 

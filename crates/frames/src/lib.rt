@@ -19,21 +19,21 @@ pub const LONGEST: usize = 1563;
 const LONGEST_BODY: usize = LONGEST - AROUND;
 
 // So many bytes of a frame.
-#[derive(Clone, Copy)]
+#[derive(Clone, Copy, Debug, PartialEq, Eq)]
 pub struct FrameLength(pub u16);
 
 // So many bytes of a frame's body.
-#[derive(Clone, Copy)]
+#[derive(Clone, Copy, Debug, PartialEq, Eq)]
 pub struct BodyLength(pub u16);
 
-#[derive(Clone, Copy)]
+#[derive(Clone, Copy, Debug, PartialEq, Eq)]
 pub enum Kind {
     Command,
     Response,
 }
 
 // Why a stream stops.
-#[derive(Clone, Copy)]
+#[derive(Clone, Copy, Debug, PartialEq, Eq)]
 pub enum Fault {
     BadLength,
     UnknownKind,
@@ -41,7 +41,7 @@ pub enum Fault {
 }
 
 // What the bytes of a frame so far amount to: a whole frame; bytes of one that is not complete; a fault.
-#[derive(Clone, Copy)]
+#[derive(Clone, Copy, Debug, PartialEq, Eq)]
 pub enum Step {
     Whole(Kind, BodyLength),
     NotYet(FrameLength),
@@ -49,7 +49,7 @@ pub enum Step {
 }
 
 // Why a frame is not written.
-#[derive(Clone, Copy)]
+#[derive(Clone, Copy, Debug, PartialEq, Eq)]
 pub enum WriteRefusal {
     BodyTooLong,
     RoomTooSmall,
@@ -137,7 +137,7 @@ fn check_right(bytes: &[u8]) -> bool
 }
 
 // Judges the bytes of a frame so far: by the check too where all are there.
-#[tactic(auto, using(crate::proofs::Judging::whole_long), unfolding(crate::specs::Frames::judged, crate::specs::Frames::checked))]
+#[tactic(auto, using(crate::proofs::Judgments::whole_long), unfolding(crate::specs::Frames::judged, crate::specs::Frames::checked))]
 pub fn judge(bytes: &[u8]) -> Step
     ensures { result ≡ judged bytes.now }
 {
@@ -157,6 +157,7 @@ fn put_little_endian(room: &mut [u8], at: usize, n: u16)
 }
 
 // Writes a frame of n bytes up to its check.
+#[tactic(auto, using(primitives::proofs::Over::over_over), unfolding(crate::specs::Frames::unchecked))]
 fn write_unchecked(kind: Kind, body: &[u8], room: &mut [u8], n: u16)
     requires { (length body.now + 4 ≤ length room.old) × (n ≡ length body.now + around) }
     ensures { room.new ≡ over 0 (unchecked kind body.now) room.old }

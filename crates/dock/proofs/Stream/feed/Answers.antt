@@ -23,8 +23,8 @@ loop-taken-smaller c = search left_less
 pub loop-taken-preserved : goal.loop-taken-preserved
 loop-taken-preserved c = (search taken_within, c.take_part-part.array_long, search feed_on)
 
-pub returns-in-Whole : goal.returns-in-Whole
-returns-in-Whole c = search feed_whole
+pub returns-in-loop-taken : goal.returns-in-loop-taken
+returns-in-loop-taken c = search feed_whole
 
 pub returns : goal.returns
 returns c = search feed_end
