@@ -3,9 +3,10 @@ use Prim.Native.Nat.{ℕ, ◌+◌, ◌≤◌, ◌<◌}
 use mathlib.Core.Path.{◌≡◌, refl, ap, sym, ◌∙◌}
 use mathlib.Core.Bool.{Bool, true, false, ◌&&◌}
 use mathlib.Core.List.{List, [], ◌++◌}
+use mathlib.Core.Logic.{inl, inr}
 use native.Mathlib.Omega.{arith}
-use borrow.Author.Tests.{eqb-true, leb-true, ltb-true, ltb-false}
-use lib.Dec.{eqb, leb, ltb}
+use borrow.Author.Tests.{eqb-true, leb-true}
+use lib.Dec.{eqb, leb}
 use lib.ListN.{length, take, drop, length-append, take-append-drop}
 use lib.Seq.{length-take-le, take-take}
 use Rattle.std.specs.Prelude.{if◌then◌else◌}
@@ -14,7 +15,7 @@ use Rattle.frames.specs.declared.FrameLength.{FrameLength}
 use Rattle.frames.specs.declared.Step.{Step}
 use Rattle.frames.specs.declared.Step.TheVariants.{Whole, NotYet, Stopped}
 use Rattle.frames.specs.Frames.{around, longest, in_frame, kind_numbered, judged_by_head, checked, judged}
-use Rattle.frames.proofs.Judgments.{number_front, Going, going, length_to_come, kind_to_come, end_to_come}
+use Rattle.frames.proofs.Judgments.{by_ltb, low_or_high, number_front, Going, going, length_to_come, kind_to_come, end_to_come}
 use Rattle.dock.specs.Parts.{judged_after, next_judged, head_judged, reach}
 
 -- m is where bytes are judged next, whatever comes: it is ahead, within the longest frame, and up to there nothing happens
@@ -63,14 +64,12 @@ quiet_next : (bs : List ℕ) → Quiet bs (next_judged bs)
 unfolding next_judged
 quiet_next bs = go (judged_by_head bs) refl
   where
-    tested : (n : FrameLength) → judged_by_head bs ≡ NotYet n → (s t : Bool) → ltb (length bs) 2 ≡ s → ltb (length bs) 4 ≡ t → Quiet bs (judged_after (NotYet n) bs)
-    tested n e true t p q = unfold judged_after in rw p (next_length bs (still_going bs n e) (ltb-true (length bs) 2 p))
-    tested n e false true p q = unfold judged_after in rw (p, q) (next_kind bs (still_going bs n e) (ltb-false (length bs) 2 p) (ltb-true (length bs) 4 q))
-    tested n e false false p q = unfold judged_after in rw (p, q) (next_end bs (still_going bs n e) (ltb-false (length bs) 4 q))
-
     go : (s : Step) → judged_by_head bs ≡ s → Quiet bs (judged_after s bs)
     go (Whole k n) e = unfold judged_after in next_byte bs
-    go (NotYet n) e = tested n e (ltb (length bs) 2) (ltb (length bs) 4) refl refl
+    go (NotYet n) e =
+        let g = still_going bs n e in
+        unfold judged_after in
+        by_ltb (Quiet bs) (length bs) 2 (next_length bs g) (λ two. by_ltb (Quiet bs) (length bs) 4 (next_kind bs g two) (next_end bs g))
     go (Stopped f) e = unfold judged_after in next_byte bs
 
 -- m is where bytes are judged next, with these to come
@@ -103,26 +102,22 @@ module _ (bytes : List ℕ) (four : 4 ≤ length bytes) (g : Going (take 4 bytes
       ∙ ap (little_endian_at 0) (ap (λ (x : List ℕ). x ++ drop k (take 4 bytes)) (sym (take-take k 4 bytes h)) ∙ take-append-drop k (take 4 bytes))
 
   head_quiet : (k : ℕ) → 0 < k → k ≤ length bytes → k < little_endian_at 0 (take 4 bytes) → judged (take k bytes) ≡ NotYet (in_frame (length (take k bytes)))
-  head_quiet k p l h = go (ltb k 2) (ltb k 4) refl refl
-    where
-      s : length (take k bytes) ≡ k
-      s = length-take-le k bytes l
-
-      go : (a b : Bool) → ltb k 2 ≡ a → ltb k 4 ≡ b → judged (take k bytes) ≡ NotYet (in_frame (length (take k bytes)))
-      go true b x y = length_to_come (take k bytes) (omega (arith, s, ltb-true k 2 x))
-      go false true x y =
-          let i = ltb-false k 2 x in
-          let j = ltb-true k 4 y in
-          kind_to_come (take k bytes) (little_endian_at 0 (take 4 bytes)) (in_head k i (omega arith)) length_good.0 length_good.1 (omega (arith, s)) (omega (arith, s))
-      go false false x y =
-          let j = ltb-false k 4 y in
-          let whole : take 4 bytes ++ drop 4 (take k bytes) ≡ take k bytes =
-          ap (λ (z : List ℕ). z ++ drop 4 (take k bytes)) (sym (take-take 4 k bytes j)) ∙ take-append-drop 4 (take k bytes) in
-          let kind = g.kind_known (omega (arith, head_size)) in
-          end_to_come (take k bytes) (little_endian_at 0 (take 4 bytes))
-          (sym (number_front 0 (take 4 bytes) (drop 4 (take k bytes)) (omega (arith, head_size)) ∙ ap (little_endian_at 0) whole)) length_good.0 length_good.1
-          kind.0 (omega (arith, s))
-          (ap kind_numbered (sym (number_front 2 (take 4 bytes) (drop 4 (take k bytes)) (omega (arith, head_size)) ∙ ap (little_endian_at 2) whole)) ∙ kind.1) (omega (arith, s))
+  head_quiet k p l h =
+      let s = length-take-le k bytes l in
+      elim (low_or_high k 2) [
+        | inl i ↦ length_to_come (take k bytes) (omega (arith, s))
+        | inr i ↦ elim (low_or_high k 4) [
+          | inl j ↦ kind_to_come (take k bytes) (little_endian_at 0 (take 4 bytes)) (in_head k i (omega arith)) length_good.0 length_good.1 (omega (arith, s)) (omega (arith, s))
+          | inr j ↦
+              let whole : take 4 bytes ++ drop 4 (take k bytes) ≡ take k bytes =
+              ap (λ (z : List ℕ). z ++ drop 4 (take k bytes)) (sym (take-take 4 k bytes j)) ∙ take-append-drop 4 (take k bytes) in
+              let kind = g.kind_known (omega (arith, head_size)) in
+              end_to_come (take k bytes) (little_endian_at 0 (take 4 bytes))
+              (sym (number_front 0 (take 4 bytes) (drop 4 (take k bytes)) (omega (arith, head_size)) ∙ ap (little_endian_at 0) whole)) length_good.0 length_good.1
+              kind.0 (omega (arith, s))
+              (ap kind_numbered (sym (number_front 2 (take 4 bytes) (drop 4 (take k bytes)) (omega (arith, head_size)) ∙ ap (little_endian_at 2) whole)) ∙ kind.1) (omega (arith, s))
+        ]
+      ]
 
   next_of_head : Next [] bytes (little_endian_at 0 (take 4 bytes))
   next_of_head = record { ahead = omega (arith, length_good.0); within = λ h. length_good.1; quiet = λ k p l h. head_quiet k p l (omega arith) }
@@ -139,16 +134,16 @@ head_goes bytes four h = go (judged_by_head (take 4 bytes)) refl h
     go (NotYet n) e l = unfold judged_after in rw s (next_of_head bytes four (still_going (take 4 bytes) n e))
     go (Stopped f) e l = absurd (unfold judged_after in omega (arith, s))
 
-head_reached : (bytes : List ℕ) (t : Bool) → ltb (length bytes) 4 ≡ t → around ≤ head_judged bytes → Next [] bytes (head_judged bytes)
+head_reached : (bytes : List ℕ) → around ≤ head_judged bytes → Next [] bytes (head_judged bytes)
 unfolding head_judged
-head_reached bytes true t l = absurd (omega (arith, (rw t at l)))
-head_reached bytes false t l = rw t (head_goes bytes (ltb-false (length bytes) 4 t) (rw t at l))
+head_reached bytes l =
+    by_ltb (λ m. around ≤ m → Next [] bytes m) (length bytes) 4 (λ short i. absurd (omega arith)) (head_goes bytes) l
 
 pub reached : (n : ℕ) (buffer bytes : List ℕ) → Next (take n buffer) bytes (reach n buffer bytes)
 unfolding reach
 reached n buffer bytes = go (eqb n 0) (leb around (head_judged bytes)) refl refl
   where
     go : (s t : Bool) → eqb n 0 ≡ s → leb around (head_judged bytes) ≡ t → Next (take n buffer) bytes (if s && t then head_judged bytes else next_judged (take n buffer))
-    go true true e f = rw (eqb-true n 0 e) (head_reached bytes (ltb (length bytes) 4) refl (leb-true around (head_judged bytes) f))
+    go true true e f = rw (eqb-true n 0 e) (head_reached bytes (leb-true around (head_judged bytes) f))
     go true false e f = next (take n buffer) bytes
     go false t e f = next (take n buffer) bytes

@@ -1,36 +1,33 @@
 -- What the writer writes is read back by a stream between frames.
 use Prim.Native.Nat.{ℕ, ◌+◌, ◌-◌, ◌*◌, ◌/◌, ◌%◌, ◌≤◌, ◌<◌}
 use mathlib.Core.Path.{◌≡◌, refl, ap, ap₂, sym, ◌∙◌}
-use mathlib.Core.Bool.{Bool, true, false}
+use mathlib.Core.Bool.{true}
 use mathlib.Core.List.{List, [], ◌∷◌, ◌++◌, append_assoc}
+use mathlib.Core.Logic.{inl, inr}
 use native.Mathlib.Omega.{arith}
 use native.Mathlib.Nat.{add-zero}
-use borrow.Author.Tests.{eq-eqb, le-ltb, ltb-true, ltb-false}
-use lib.Dec.{ltb}
+use borrow.Author.Tests.{eq-eqb, le-ltb}
 use lib.ListN.{length, take, drop, get_or, length-append}
 use lib.Seq.{take_at, get_or-append-add}
-use Rattle.std.specs.Prelude.{if◌then◌else◌}
+use Rattle.std.specs.Prelude.{Some}
 use Rattle.rules.specs.Basic.{little_endian, little_endian_at}
 use Rattle.frames.specs.declared.Kind.{Kind}
 use Rattle.frames.specs.declared.Kind.TheVariants.{Command, Response}
-use Rattle.frames.specs.declared.NamedKind.TheVariants.{Known}
 use Rattle.frames.specs.declared.Step.TheVariants.{Whole, NotYet}
-use Rattle.frames.specs.declared.WriteRefusal.TheVariants.{BodyTooLong, RoomTooSmall}
-use Rattle.frames.specs.declared.Written.TheVariants.{Frame as Wrote, Refused}
 use Rattle.remainder.specs.Remainder.{remainder}
 use Rattle.frames.specs.Frames.{around, longest, longest_body, in_frame, in_body, kind_number, kind_numbered, unchecked, frame_bytes, body_at}
-use Rattle.frames.specs.Frames.{by_kind, judged_by_head, check_right, checked, judged, Writing, written, writing, written_number, HostWrites}
+use Rattle.frames.specs.Frames.{by_kind, judged_by_head, check_right, checked, judged, Writing, writing, written_number, HostWrites}
 use Rattle.dock.specs.Streams.{Frame, Ran, State, collecting, between, shown, run, after, next, out, received}
 use Rattle.dock.specs.Hosts.{Holding, held_state, Calls}
 use Rattle.dock.proofs.Cutting.{before, run_append}
-use Rattle.frames.proofs.Judgments.{number_front, length_to_come, kind_to_come, end_to_come}
+use Rattle.frames.proofs.Judgments.{by_ltb, low_or_high, number_front, length_to_come, kind_to_come, end_to_come}
 use Rattle.dock.proofs.Received.{calls_as_rules}
 use Rattle.frames.proofs.Writing.{frame_length}
 
 low_whole : (n : ℕ) → n % 256 + 256 * (n / 256) ≡ n
 low_whole n = omega arith
 
-kind_back : (k : Kind) → kind_numbered (kind_number k) ≡ Known k
+kind_back : (k : Kind) → kind_numbered (kind_number k) ≡ Some k
 unfolding kind_numbered
 kind_back Command = refl
 kind_back Response = refl
@@ -65,7 +62,7 @@ module _ (k : Kind) (body : List ℕ) where
   unfolding frame_bytes unchecked body_at
   body_there = take_at body (little_endian (remainder (unchecked k body))) (length body) refl
 
-  kind_frame : by_kind (Known k) (frame_bytes k body) ≡ Whole k (in_body (length body))
+  kind_frame : by_kind (Some k) (frame_bytes k body) ≡ Whole k (in_body (length body))
   unfolding by_kind
   kind_frame =
       let n : length body + around - around ≡ length body = omega arith in
@@ -85,23 +82,19 @@ module _ (k : Kind) (body : List ℕ) where
 
     -- fewer bytes of it are not yet complete
     judged_front : (p q : List ℕ) → p ++ q ≡ frame_bytes k body → 0 < length q → judged p ≡ NotYet (in_frame (length p))
-    judged_front p q e h = go (ltb (length p) 2) refl (ltb (length p) 4) refl
-      where
-        short : length p < length body + around
-        short = omega (arith, length-append p q, ap length e, frame_length k body)
-
-        there : 2 ≤ length p → little_endian_at 0 p ≡ length body + around
-        there l = number_front 0 p q (omega arith) ∙ ap (little_endian_at 0) e ∙ length_there
-
-        go : (s : Bool) → ltb (length p) 2 ≡ s → (t : Bool) → ltb (length p) 4 ≡ t → judged p ≡ NotYet (in_frame (length p))
-        go true es t et = length_to_come p (ltb-true (length p) 2 es)
-        go false es true et =
-            let l : 2 ≤ length p = ltb-false (length p) 2 es in
-            kind_to_come p (length body + around) (there l) (omega arith) (omega arith) l (ltb-true (length p) 4 et)
-        go false es false et =
-            let l : 4 ≤ length p = ltb-false (length p) 4 et in
-            end_to_come p (length body + around) (there (omega arith)) (omega arith) (omega arith) k l
-            (ap kind_numbered (number_front 2 p q (omega arith) ∙ ap (little_endian_at 2) e ∙ kind_there) ∙ kind_back k) short
+    judged_front p q e h =
+        let short : length p < length body + around = omega (arith, length-append p q, ap length e, frame_length k body) in
+        let there : (2 ≤ length p → little_endian_at 0 p ≡ length body + around) =
+        λ l. number_front 0 p q (omega arith) ∙ ap (little_endian_at 0) e ∙ length_there in
+        elim (low_or_high (length p) 2) [
+          | inl s ↦ length_to_come p s
+          | inr l ↦ elim (low_or_high (length p) 4) [
+            | inl s ↦ kind_to_come p (length body + around) (there l) (omega arith) (omega arith) l s
+            | inr m ↦
+                end_to_come p (length body + around) (there l) (omega arith) (omega arith) k m
+                (ap kind_numbered (number_front 2 p q (omega arith) ∙ ap (little_endian_at 2) e ∙ kind_there) ∙ kind_back k) short
+          ]
+        ]
 
     -- with p taken, the rest of the frame comes
     read_from : (q p : List ℕ) (b : ℕ) → p ++ (b ∷ q) ≡ frame_bytes k body
@@ -134,22 +127,14 @@ record WroteFrame (k : Kind) (body after : List ℕ) : Type 0 where
 
 wrote_frame : (k : Kind) (body room after : List ℕ) → HostWrites k body room 0 after → WroteFrame k body after
 unfolding writing written_number
-wrote_frame k body room after w = go (ltb longest_body (length body)) refl (ltb (length room) (length body + around)) w.told w.left
-  where
-    answered : Bool → Bool → Writing
-    answered s t =
-        if s then written (Refused BodyTooLong) room else
-        (if t then written (Refused RoomTooSmall) room else
-        written (Wrote (in_frame (length body + around))) (frame_bytes k body ++ drop (length body + around) room))
-
-    go : (s : Bool) → ltb longest_body (length body) ≡ s → (t : Bool) → 0 ≡ written_number (answered s t).answer → after ≡ (answered s t).room → WroteFrame k body after
-    go true b t e h = let z : ◌≡◌ {A = ℕ} 0 1 = e in absurd (omega arith)
-    go false b true e h = let z : ◌≡◌ {A = ℕ} 0 2 = e in absurd (omega arith)
-    go false b false e h =
-        record {
-          fits = ltb-false longest_body (length body) b;
-          front = ap (take (length body + around)) h ∙ take_at (frame_bytes k body) (drop (length body + around) room) (length body + around) (frame_length k body);
-        }
+wrote_frame k body room after w =
+    let P = λ (a : Writing). 0 ≡ written_number a.answer → after ≡ a.room → WroteFrame k body after in
+    by_ltb P longest_body (length body) (λ long e h. let z : ◌≡◌ {A = ℕ} 0 1 = e in absurd (omega arith)) (λ fits.
+    by_ltb P (length room) (length body + around) (λ short e h. let z : ◌≡◌ {A = ℕ} 0 2 = e in absurd (omega arith)) (λ there e h.
+    record {
+      fits = fits;
+      front = ap (take (length body + around)) h ∙ take_at (frame_bytes k body) (drop (length body + around) room) (length body + around) (frame_length k body);
+    })) w.told w.left
 
 -- What `dock_write_command` or `dock_write_response` wrote, fed in any pieces to a stream between frames, is read back: one frame
 -- of that kind and body, and the stream is between frames again

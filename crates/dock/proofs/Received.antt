@@ -1,11 +1,10 @@
 -- A stream as a host holds it follows the rules: the same frames, and the state of the rules.
-use Prim.Native.Nat.{ℕ, zero, suc, ◌+◌, ◌≤◌, ◌<◌}
+use Prim.Native.Nat.{ℕ, zero, suc, ◌+◌, ◌≤◌}
 use mathlib.Core.Path.{◌≡◌, refl, ap, ap₂, sym, subst, ◌∙◌}
-use mathlib.Core.Bool.{Bool, true, false}
 use mathlib.Core.List.{List, [], ◌∷◌, ◌++◌}
+use mathlib.Core.Logic.{inl, inr}
 use native.Mathlib.Omega.{arith}
-use borrow.Author.Tests.{ltb-true, ltb-false}
-use lib.Dec.{ltb}
+use borrow.Author.Tests.{lt-ltb, le-ltb}
 use lib.ListN.{length, take, drop, set, length-set, length-append, length-take}
 use lib.Seq.{take_all, take-take}
 use Rattle.frames.specs.declared.Fault.TheVariants.{BadLength}
@@ -19,7 +18,7 @@ use Rattle.dock.specs.Held.{state_of, step_of, stream_after, buffer_after}
 use Rattle.dock.specs.Host.{stream_of, host_of}
 use Rattle.dock.specs.Hosts.{Holding, holding, held_state, Calls, AsRules, HoweverCut}
 use Rattle.dock.proofs.Stepping.{front_more}
-use Rattle.frames.proofs.Judgments.{Tells, judged_tells, judged_long}
+use Rattle.frames.proofs.Judgments.{low_or_high, Tells, judged_tells, judged_long}
 use Rattle.dock.proofs.Cutting.{Held, held, next_held, out_held, held_run, inner, calls_run}
 
 -- one byte --------------------------------------------------------------------------------------------------------------------
@@ -60,26 +59,25 @@ record Follows (h : Held) (b : ℕ) : Type 0 where
 follows : (s : Stream) (buffer : List ℕ) (b : ℕ) → length buffer ≡ longest → Follows (held s buffer) b
 unfolding state_of step_of buffer_after next out shown after
 follows (Stays f) buffer b l = record { state = refl; frames = refl; size = l }
-follows (Collecting n) buffer b l = go (ltb n.0 longest) refl
-  where
-    go : (t : Bool) → ltb n.0 longest ≡ t → Follows (held (Collecting n) buffer) b
-    go true e =
-        let h : n.0 < longest = ltb-true n.0 longest e in
-        let front : take (n.0 + 1) (set buffer n.0 b) ≡ take n.0 buffer ++ (b ∷ []) = front_more buffer n.0 b (omega arith) in
-        let size : length (take n.0 buffer ++ (b ∷ [])) ≡ n.0 + 1 = simp (length-append, length-take) (omega arith) in
-        let told : Tells (n.0 + 1) (judged (take n.0 buffer ++ (b ∷ []))) = rw size at (judged_tells (take n.0 buffer ++ (b ∷ []))) in
-        unfold state_of step_of buffer_after next out in
-        record {
-          state = rw e (state_kept (set buffer n.0 b) (take n.0 buffer ++ (b ∷ [])) (n.0 + 1) front (judged (take n.0 buffer ++ (b ∷ []))) told);
-          frames = rw e (frames_kept (set buffer n.0 b) (take n.0 buffer ++ (b ∷ [])) (n.0 + 1) front (judged (take n.0 buffer ++ (b ∷ []))) told);
-          size = rw e (length-set buffer n.0 b ∙ l);
-        }
-    go false e =
-        let h : longest ≤ n.0 = ltb-false n.0 longest e in
-        let whole : take n.0 buffer ≡ buffer = take_all n.0 buffer (omega arith) in
-        let past : judged (take n.0 buffer ++ (b ∷ [])) ≡ Stopped BadLength = judged_long (take n.0 buffer ++ (b ∷ [])) (rw whole (simp length-append (omega arith))) in
-        unfold state_of step_of buffer_after next out after shown in
-        record { state = rw (e, past); frames = rw (e, past); size = rw e l }
+follows (Collecting n) buffer b l =
+    let bs = take n.0 buffer ++ (b ∷ []) in
+    elim (low_or_high n.0 longest) [
+      | inl h ↦
+          let front : take (n.0 + 1) (set buffer n.0 b) ≡ bs = front_more buffer n.0 b (omega arith) in
+          let size : length bs ≡ n.0 + 1 = simp (length-append, length-take) (omega arith) in
+          let told : Tells (n.0 + 1) (judged bs) = rw size at (judged_tells bs) in
+          let e = lt-ltb n.0 longest h in
+          record {
+            state = rw e (state_kept (set buffer n.0 b) bs (n.0 + 1) front (judged bs) told);
+            frames = rw e (frames_kept (set buffer n.0 b) bs (n.0 + 1) front (judged bs) told);
+            size = rw e (length-set buffer n.0 b ∙ l);
+          }
+      | inr h ↦
+          let whole : take n.0 buffer ≡ buffer = take_all n.0 buffer (omega arith) in
+          let past : judged bs ≡ Stopped BadLength = judged_long bs (rw whole (simp length-append (omega arith))) in
+          let e = le-ltb n.0 longest h in
+          record { state = rw (e, past); frames = rw (e, past); size = rw e l }
+    ]
 
 -- all bytes -------------------------------------------------------------------------------------------------------------------
 

@@ -1,15 +1,11 @@
 -- When a stream stops: each fault is told as soon as its bytes are there. A stopped stream: its fault is all that is left of it.
 use Prim.Native.Nat.{ℕ, ◌+◌, ◌≤◌, ◌<◌}
 use mathlib.Core.Path.{◌≡◌, refl, ap, sym, subst, ◌∙◌}
-use mathlib.Core.Bool.{Bool, true, false}
 use mathlib.Core.List.{List, [], ◌∷◌, ◌++◌}
 use mathlib.Core.Logic.{inl, inr}
 use native.Mathlib.Omega.{arith}
-use borrow.Author.Tests.{ltb-true, ltb-false}
-use lib.Dec.{ltb}
 use lib.ListN.{length, length-append}
 use Rattle.rules.specs.Basic.{little_endian_at}
-use Rattle.frames.specs.declared.NamedKind.TheVariants.{Known, Unknown}
 use Rattle.frames.specs.declared.Fault.{Fault}
 use Rattle.frames.specs.declared.Fault.TheVariants.{BadLength, UnknownKind, BadCheck}
 use Rattle.dock.specs.declared.Stream.{Stream}
@@ -44,38 +40,11 @@ module _ (bs : List ℕ) (b : ℕ) (g : Going bs) where
 
   in_time : {s : Step} → Judgment (bs ++ (b ∷ [])) s → InTime (bs ++ (b ∷ [])) s
   in_time (no_length h) = tt
-  in_time (too_short h l) = record { now = go (ltb (length bs) 2) refl; why = inl l }
-    where
-      go : (t : Bool) → ltb (length bs) 2 ≡ t → length (bs ++ (b ∷ [])) ≡ 2
-      go true e = omega (arith, more, ltb-true (length bs) 2 e)
-      go false e =
-          let i : 2 ≤ length bs = ltb-false (length bs) 2 e in
-          absurd (omega (arith, (g.length_good i).0, number_front 0 bs (b ∷ []) i))
-  in_time (too_long h l) = record { now = go (ltb (length bs) 2) refl; why = inr l }
-    where
-      go : (t : Bool) → ltb (length bs) 2 ≡ t → length (bs ++ (b ∷ [])) ≡ 2
-      go true e = omega (arith, more, ltb-true (length bs) 2 e)
-      go false e =
-          let i : 2 ≤ length bs = ltb-false (length bs) 2 e in
-          absurd (omega (arith, (g.length_good i).1, number_front 0 bs (b ∷ []) i))
-  in_time (passed h l n) = go (ltb (length bs) 2) refl
-    where
-      go : (t : Bool) → ltb (length bs) 2 ≡ t → Told BadLength (bs ++ (b ∷ []))
-      go true e = absurd (omega (arith, more, ltb-true (length bs) 2 e))
-      go false e =
-          let i : 2 ≤ length bs = ltb-false (length bs) 2 e in
-          absurd (omega (arith, more, (g.length_good i).2, number_front 0 bs (b ∷ []) i))
+  in_time (too_short h l) = record { now = grind (arith, more, g.length_good, number_front 0 bs (b ∷ [])); why = inl l }
+  in_time (too_long h l) = record { now = grind (arith, more, g.length_good, number_front 0 bs (b ∷ [])); why = inr l }
+  in_time (passed h l n) = absurd (grind (arith, more, g.length_good, number_front 0 bs (b ∷ [])))
   in_time (no_kind q h) = tt
-  in_time (unknown q l e) = record { now = go (ltb (length bs) 4) refl; why = e }
-    where
-      go : (t : Bool) → ltb (length bs) 4 ≡ t → length (bs ++ (b ∷ [])) ≡ 4
-      go true h = omega (arith, more, ltb-true (length bs) 4 h)
-      go false h =
-          let i : 4 ≤ length bs = ltb-false (length bs) 4 h in
-          let k = g.kind_known i in
-          let c : Unknown ≡ Known k.0 = sym e ∙ ap kind_numbered (sym (number_front 2 bs (b ∷ []) i)) ∙ k.1 in
-          let z : ◌≡◌ {A = ℕ} 0 1 = cc in
-          absurd (omega arith)
+  in_time (unknown q l e) = record { now = grind (arith, more, g.kind_known, number_front 2 bs (b ∷ []), e); why = e }
   in_time (no_end q l e n) = tt
   in_time (whole q l e n c) = tt
   in_time (bad_check q l e n c) = record { now = n; why = c }

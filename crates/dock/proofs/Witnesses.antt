@@ -8,8 +8,8 @@ use native.Mathlib.Omega.{arith}
 use lib.ListN.{length, replicate}
 use Rattle.rules.specs.Hex.{hex}
 use Rattle.frames.specs.declared.Kind.TheVariants.{Command, Response}
-use Rattle.frames.specs.declared.NamedKind.{NamedKind}
-use Rattle.frames.specs.declared.NamedKind.TheVariants.{Unknown}
+use Rattle.std.specs.Prelude.{Option, None}
+use Rattle.frames.specs.declared.Kind.{Kind}
 use Rattle.frames.specs.declared.Fault.TheVariants.{BadLength, UnknownKind, BadCheck}
 use Rattle.frames.specs.declared.Step.{Step}
 use Rattle.frames.specs.Cases.{not_yet, same_named, same_step}
@@ -57,7 +57,7 @@ longest_untold t = neither 1563 6 (omega arith) (omega arith) t.why
 
 pub known_untold : Told UnknownKind (hex "06 00 01 00") → ⊥
 unfolding computed
-known_untold t = let z : ◌≡◌ {A = ℕ} 0 1 = ap (λ (k : NamedKind). bit (same_named k Unknown)) t.why in absurd (omega arith)
+known_untold t = let z : ◌≡◌ {A = ℕ} 0 1 = ap (λ (k : Option Kind). bit (same_named k None)) t.why in absurd (omega arith)
 
 pub right_untold : Told BadCheck (hex "06 00 01 00 42 52") → ⊥
 unfolding computed

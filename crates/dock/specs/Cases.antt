@@ -37,21 +37,18 @@ frame k body = record { kind = k; body = body }
 
 unfoldable pub same_frames : List Frame → List Frame → Bool
 same_frames [] [] = true
-same_frames [] (g ∷ gs) = false
-same_frames (f ∷ fs) [] = false
 same_frames (f ∷ fs) (g ∷ gs) = same_kind f.kind g.kind && same f.body g.body && same_frames fs gs
+same_frames fs gs = false
 
 unfoldable pub same_state : State → State → Bool
 same_state (collecting bs) (collecting cs) = same bs cs
-same_state (collecting bs) (stopped g) = false
-same_state (stopped f) (collecting cs) = false
 same_state (stopped f) (stopped g) = same_fault f g
+same_state s t = false
 
 unfoldable pub same_stream : Stream → Stream → Bool
 same_stream (Collecting n) (Collecting m) = eqb n.0 m.0
-same_stream (Collecting n) (Stays g) = false
-same_stream (Stays f) (Collecting m) = false
 same_stream (Stays f) (Stays g) = same_fault f g
+same_stream s t = false
 
 unfoldable pub same_numbers : HostStream → HostStream → Bool
 same_numbers h i = eqb h.collected i.collected && eqb h.stop i.stop

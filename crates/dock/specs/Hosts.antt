@@ -1,7 +1,6 @@
 -- Hosts: any calls of `dock_feed` that hand over the same bytes.
-use Rattle.std.specs.Prelude.{ℕ, ◌≤◌, ◌<◌, ◌≡◌, List, [], ◌∷◌, ◌++◌, length, drop}
-use Rattle.frames.specs.declared.NamedKind.{NamedKind}
-use Rattle.frames.specs.declared.NamedKind.TheVariants.{Known, Unknown}
+use Rattle.std.specs.Prelude.{ℕ, ◌≤◌, ◌<◌, ◌≡◌, Option, Some, None, List, [], ◌∷◌, ◌++◌, length, drop}
+use Rattle.frames.specs.declared.Kind.{Kind}
 use Rattle.frames.specs.Frames.{longest, kind_numbered, body_at}
 use Rattle.dock.specs.declared.HostStream.{HostStream}
 use Rattle.dock.specs.declared.HostFed.{HostFed}
@@ -22,9 +21,9 @@ abbrev pub held_state : Holding → State
 held_state h = state_of (stream_of h.stream) h.buffer
 
 -- the frame that a host is told of, in the lent bytes
-unfoldable pub named_frame : NamedKind → ℕ → List ℕ → List Frame
-named_frame (Known k) n buffer = record { kind = k; body = body_at n buffer } ∷ []
-named_frame Unknown n buffer = []
+unfoldable pub named_frame : Option Kind → ℕ → List ℕ → List Frame
+named_frame (Some k) n buffer = record { kind = k; body = body_at n buffer } ∷ []
+named_frame None n buffer = []
 
 unfoldable pub told : HostFed → List ℕ → List Frame
 told r buffer = named_frame (kind_numbered r.kind) r.size buffer

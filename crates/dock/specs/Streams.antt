@@ -1,8 +1,7 @@
 -- A stream of frames: a step for each byte, so that pieces are of no account.
-use Rattle.std.specs.Prelude.{ℕ, ◌<◌, ◌≡◌, false, List, [], ◌∷◌, ◌++◌, ◌⊎◌, length}
+use Rattle.std.specs.Prelude.{ℕ, ◌<◌, ◌≡◌, false, None, List, [], ◌∷◌, ◌++◌, ◌⊎◌, length}
 use Rattle.rules.specs.Basic.{little_endian_at}
 use Rattle.frames.specs.declared.Kind.{Kind}
-use Rattle.frames.specs.declared.NamedKind.TheVariants.{Unknown}
 use Rattle.frames.specs.declared.Fault.{Fault}
 use Rattle.frames.specs.declared.Fault.TheVariants.{BadLength, UnknownKind, BadCheck}
 use Rattle.frames.specs.declared.Step.{Step}
@@ -76,7 +75,7 @@ told_at BadCheck bs = little_endian_at 0 bs
 -- what each fault is
 abbrev pub Faulty : Fault → List ℕ → Type 0
 Faulty BadLength bs = (little_endian_at 0 bs < around) ⊎ (longest < little_endian_at 0 bs)
-Faulty UnknownKind bs = kind_numbered (little_endian_at 2 bs) ≡ Unknown
+Faulty UnknownKind bs = kind_numbered (little_endian_at 2 bs) ≡ None
 Faulty BadCheck bs = check_right bs ≡ false
 
 -- the bytes of a frame end where this fault is told, and have it

@@ -3,22 +3,22 @@
 
 ghost use Rattle.std.specs.Prelude.{◌≡◌, ◌++◌, ◌+◌, ◌≤◌, length, take};
 ghost use Rattle.primitives.specs.Bytes.{over};
-ghost use Rattle.frames.specs.Frames.{longest, in_frame, judged};
+ghost use Rattle.frames.specs.Frames.{in_frame, judged};
 ghost use Rattle.dock.specs.Held.{stream_after, resting, fed, feeding};
-ghost use Rattle.dock.specs.Host.{stream_of, host_of, host_told, host_left, host_feeding};
-ghost use Rattle.dock.specs.Parts.{next_judged, head_judged, reach, parted, collecting_part, part};
+ghost use Rattle.dock.specs.Host.{stream_of, host_of, host_fed, host_left, host_feeding};
+ghost use Rattle.dock.specs.Parts.{next_judged, head_judged, reach, answered, collecting_part, part};
 
-use frames::{Fault, FrameLength, Step};
+use frames::{AROUND, Fault, FrameLength, HEAD, LONGEST, Step};
 
 // A stream: the bytes collected of the present frame, which stand at the front of the lent bytes, or the fault that stopped it.
-#[derive(Clone, Copy)]
+#[derive(Clone, Copy, Debug, PartialEq, Eq)]
 pub enum Stream {
     Collecting(FrameLength),
     Stopped(Fault),
 }
 
 // What a piece brings: the stream after it, the answer to the last byte taken, and how many bytes were taken.
-#[derive(Clone, Copy)]
+#[derive(Clone, Copy, Debug, PartialEq, Eq)]
 pub struct Fed {
     pub stream: Stream,
     pub step: Step,
@@ -43,21 +43,8 @@ pub struct HostFed {
     pub taken: usize,
 }
 
-// The answer to the last of the bytes that are taken at once, and how many these are.
-#[derive(Clone, Copy)]
-struct Part {
-    step: Step,
-    taken: usize,
-}
-
-// A stream between frames: where every stream starts, and what a reset makes of one.
-pub fn start() -> Stream
-    ensures { result ≡ Stream.Collecting (in_frame 0) }
-{
-    Stream::Collecting(FrameLength(0))
-}
-
 // How many bytes are collected when they are judged next: no byte before that can end the frame or stop the stream.
+#[tactic(auto, unfolding(crate::specs::Parts::next_judged, crate::specs::Parts::judged_after))]
 fn next_judged(bytes: &[u8]) -> usize
     ensures { result ≡ next_judged bytes.now }
 {
@@ -65,38 +52,39 @@ fn next_judged(bytes: &[u8]) -> usize
     let Step::NotYet(_) = frames::judge_head(bytes) else {
         return n + 1;
     };
-    if n < 2 {
-        return 2;
+    match n {
+        ..2 => 2,
+        ..HEAD => HEAD,
+        _ => primitives::little_endian_at(bytes, 0) as usize,
     }
-    if n < frames::HEAD {
-        return frames::HEAD;
-    }
-    primitives::little_endian_at(bytes, 0) as usize
 }
 
 // The same of bytes that begin a frame, where its head is among them and no fault is in it; else fewer than the shortest frame has.
+#[tactic(auto, unfolding(crate::specs::Parts::head_judged))]
 fn head_judged(bytes: &[u8]) -> usize
     ensures { result ≡ head_judged bytes.now }
 {
-    if bytes.len() < frames::HEAD {
+    if bytes.len() < HEAD {
         return 0;
     }
-    next_judged(&bytes[..frames::HEAD])
+    next_judged(&bytes[..HEAD])
 }
 
 // How many bytes are collected when they are judged next, with these to come behind the n in the lent bytes.
+#[tactic(auto, unfolding(crate::specs::Parts::reach))]
 fn reach(n: usize, frame: &[u8], bytes: &[u8]) -> usize
     requires { n ≤ length frame.now }
     ensures { result ≡ reach n frame.now bytes.now }
 {
     let whole = head_judged(bytes);
-    if primitives::and(n == 0, frames::AROUND <= whole) {
+    if n == 0 && AROUND <= whole {
         return whole;
     }
     next_judged(&frame[..n])
 }
 
 // Puts bytes behind the n collected before them, and judges all.
+#[tactic(auto, using(crate::proofs::Parting::behind_judged))]
 fn put_behind(n: usize, frame: &mut [u8], bytes: &[u8]) -> Step
     requires { n + length bytes.now ≤ length frame.old }
     ensures { (result ≡ judged (take n frame.old ++ bytes.now))
@@ -107,142 +95,146 @@ fn put_behind(n: usize, frame: &mut [u8], bytes: &[u8]) -> Step
     frames::judge(&frame[..end])
 }
 
-// Takes bytes behind the n collected before them, up to where they are judged.
-fn collect(n: usize, frame: &mut [u8], bytes: &[u8]) -> Part
-    requires { length frame.old ≡ longest }
-    ensures { parted result frame.new ≡ collecting_part n frame.old bytes.now }
+// The answer to the last byte taken, with the stream after it.
+fn answered(step: Step, taken: usize) -> Fed
+    ensures { result ≡ answered step taken }
 {
-    if frames::LONGEST <= n {
-        return Part {
-            step: Step::Stopped(Fault::BadLength),
-            taken: bytes.len(),
-        };
-    }
-    let taken = primitives::min(reach(n, frame, bytes) - n, bytes.len());
-    Part {
-        step: put_behind(n, frame, &bytes[..taken]),
-        taken,
-    }
-}
-
-// Takes bytes at once. A stopped stream takes all, and answers its fault.
-fn take_part(stream: Stream, frame: &mut [u8], bytes: &[u8]) -> Part
-    requires { length frame.old ≡ longest }
-    ensures { parted result frame.new ≡ part stream frame.old bytes.now }
-{
-    match stream {
-        Stream::Collecting(n) => collect(n.0 as usize, frame, bytes),
-        Stream::Stopped(fault) => Part {
-            step: Step::Stopped(fault),
-            taken: bytes.len(),
-        },
-    }
-}
-
-// The stream after a step.
-fn stream_after(step: Step) -> Stream
-    ensures { result ≡ stream_after step }
-{
-    match step {
-        Step::Whole(_, _) => Stream::Collecting(FrameLength(0)),
-        Step::NotYet(n) => Stream::Collecting(n),
-        Step::Stopped(fault) => Stream::Stopped(fault),
-    }
-}
-
-// The answer where no byte is left.
-fn resting(stream: Stream) -> Step
-    ensures { result ≡ resting stream }
-{
-    match stream {
-        Stream::Collecting(n) => Step::NotYet(n),
-        Stream::Stopped(fault) => Step::Stopped(fault),
-    }
-}
-
-// Takes bytes of a piece up to the end of a frame or of the piece.
-fn feed_lent(stream: Stream, frame: &mut [u8], piece: &[u8]) -> Fed
-    requires { length frame.old ≡ longest }
-    ensures { fed result frame.new ≡ feeding stream frame.old piece.now }
-{
-    let mut held = stream;
-    let mut taken: usize = 0;
-    while taken < piece.len() {
-        let part = take_part(held, frame, &piece[taken..]);
-        let step = part.step;
-        held = stream_after(step);
-        taken += part.taken;
-        let Step::Whole(_, _) = step else {
-            continue;
-        };
-        return Fed {
-            stream: held,
-            step,
-            taken,
-        };
-    }
     Fed {
-        stream: held,
-        step: resting(held),
+        stream: Stream::after(step),
+        step,
         taken,
     }
 }
 
-// Takes bytes of a piece up to the end of a frame, which then stands whole at the front of the lent bytes, or to the end of
-// the piece. The host hands over what is left of the piece in its next call.
-pub fn feed(stream: Stream, frame: &mut [u8; frames::LONGEST], piece: &[u8]) -> Fed
-    ensures { fed result frame.new ≡ feeding stream frame.old piece.now }
+// Takes bytes behind the n collected before them, up to where they are judged.
+#[tactic(auto, using(crate::proofs::Parting::judged_ahead, crate::proofs::Parting::put_fits), unfolding(crate::specs::Parts::collecting_part, crate::specs::Parts::judged_part))]
+fn collect(n: usize, frame: &mut [u8; LONGEST], bytes: &[u8]) -> Fed
+    ensures { fed result frame.new ≡ collecting_part n frame.old bytes.now }
 {
-    feed_lent(stream, frame, piece)
+    if LONGEST <= n {
+        return answered(Step::Stopped(Fault::BadLength), bytes.len());
+    }
+    let taken = (reach(n, frame, bytes) - n).min(bytes.len());
+    let step = put_behind(n, frame, &bytes[..taken]);
+    answered(step, taken)
+}
+
+impl Stream {
+    // Between frames: where every stream starts, and what a reset makes of one.
+    pub fn start() -> Stream
+        ensures { result ≡ Stream.Collecting (in_frame 0) }
+    {
+        Stream::Collecting(FrameLength(0))
+    }
+
+    fn after(step: Step) -> Stream
+        ensures { result ≡ stream_after step }
+    {
+        match step {
+            Step::Whole(_, _) => Stream::start(),
+            Step::NotYet(n) => Stream::Collecting(n),
+            Step::Stopped(fault) => Stream::Stopped(fault),
+        }
+    }
+
+    // The answer where no byte is left.
+    fn resting(self) -> Step
+        ensures { result ≡ resting self }
+    {
+        match self {
+            Stream::Collecting(n) => Step::NotYet(n),
+            Stream::Stopped(fault) => Step::Stopped(fault),
+        }
+    }
+
+    // Takes bytes at once. A stopped stream takes all, and answers its fault.
+    #[tactic(auto, unfolding(crate::specs::Parts::part))]
+    fn take_part(self, frame: &mut [u8; LONGEST], bytes: &[u8]) -> Fed
+        ensures { fed result frame.new ≡ part self frame.old bytes.now }
+    {
+        match self {
+            Stream::Collecting(n) => collect(n.0 as usize, frame, bytes),
+            Stream::Stopped(fault) => answered(Step::Stopped(fault), bytes.len()),
+        }
+    }
+
+    // Takes bytes of a piece up to the end of a frame, which then stands whole at the front of the lent bytes, or to the end of
+    // the piece. The host hands over what is left of the piece in its next call.
+    pub fn feed(self, frame: &mut [u8; LONGEST], piece: &[u8]) -> Fed
+        ensures { fed result frame.new ≡ feeding self frame.old piece.now }
+    {
+        let mut stream = self;
+        let mut taken: usize = 0;
+        // A part is as long as its bytes say.
+        while taken < piece.len() {
+            let part = stream.take_part(frame, &piece[taken..]);
+            stream = part.stream;
+            taken += part.taken;
+            let Step::Whole(_, _) = part.step else {
+                continue;
+            };
+            return Fed { taken, ..part };
+        }
+        Fed {
+            stream,
+            step: stream.resting(),
+            taken,
+        }
+    }
 }
 
 // A stop that no fault has counts as a bad length.
-fn stream_of(held: HostStream) -> Stream
-    ensures { result ≡ stream_of held }
-{
-    if held.stop == 0 {
-        return Stream::Collecting(FrameLength(held.collected));
-    }
-    if held.stop == 2 {
-        return Stream::Stopped(Fault::UnknownKind);
-    }
-    if held.stop == 3 {
-        return Stream::Stopped(Fault::BadCheck);
-    }
-    Stream::Stopped(Fault::BadLength)
-}
+impl From<HostStream> for Stream {
+    ghost from_gives = { λ held stream. stream ≡ stream_of held };
 
-fn host_of(stream: Stream) -> HostStream
-    ensures { result ≡ host_of stream }
-{
-    match stream {
-        Stream::Collecting(n) => HostStream {
-            collected: n.0,
-            stop: 0,
-        },
-        Stream::Stopped(fault) => HostStream {
-            collected: 0,
-            stop: frames::fault_number(fault),
-        },
+    #[tactic(auto, unfolding(crate::specs::Host::stream_of))]
+    fn from(held: HostStream) -> Stream {
+        match held.stop {
+            0 => Stream::Collecting(FrameLength(held.collected)),
+            2 => Stream::Stopped(Fault::UnknownKind),
+            3 => Stream::Stopped(Fault::BadCheck),
+            _ => Stream::Stopped(Fault::BadLength),
+        }
     }
 }
 
-fn host_fed(stream: HostStream, step: Step, taken: usize) -> HostFed
-    ensures { result ≡ host_told stream step taken }
-{
-    let Step::Whole(kind, size) = step else {
-        return HostFed {
-            stream,
+impl From<Stream> for HostStream {
+    ghost from_gives = { λ stream held. held ≡ host_of stream };
+
+    #[tactic(auto, unfolding(crate::specs::Host::host_of))]
+    fn from(stream: Stream) -> HostStream {
+        match stream {
+            Stream::Collecting(n) => HostStream {
+                collected: n.0,
+                stop: 0,
+            },
+            Stream::Stopped(fault) => HostStream {
+                collected: 0,
+                stop: fault.into(),
+            },
+        }
+    }
+}
+
+impl From<Fed> for HostFed {
+    ghost from_gives = { λ fed host. host ≡ host_fed fed };
+
+    #[tactic(auto, unfolding(crate::specs::Host::host_fed, crate::specs::Host::host_told))]
+    fn from(fed: Fed) -> HostFed {
+        let no_frame = HostFed {
+            stream: fed.stream.into(),
             kind: 0,
             size: 0,
-            taken,
+            taken: fed.taken,
         };
-    };
-    HostFed {
-        stream,
-        kind: frames::kind_number(kind),
-        size: size.0,
-        taken,
+        let Step::Whole(kind, size) = fed.step else {
+            return no_frame;
+        };
+        HostFed {
+            kind: kind.into(),
+            size: size.0,
+            ..no_frame
+        }
     }
 }
 
@@ -250,15 +242,13 @@ fn host_fed(stream: HostStream, step: Step, taken: usize) -> HostFed
 pub fn start_for_host() -> HostStream
     ensures { result ≡ host_of (Stream.Collecting (in_frame 0)) }
 {
-    host_of(start())
+    Stream::start().into()
 }
 
 // `feed` for a host in C.
-pub fn feed_for_host(held: HostStream, frame: &mut [u8; frames::LONGEST], piece: &[u8]) -> HostFed
+#[tactic(auto, unfolding(crate::specs::Host::host_feeding))]
+pub fn feed_for_host(held: HostStream, frame: &mut [u8; LONGEST], piece: &[u8]) -> HostFed
     ensures { host_left result frame.new ≡ host_feeding held frame.old piece.now }
 {
-    let answer = feed(stream_of(held), frame, piece);
-    let stream = answer.stream;
-    let step = answer.step;
-    host_fed(host_of(stream), step, answer.taken)
+    Stream::from(held).feed(frame, piece).into()
 }

@@ -1,6 +1,6 @@
 -- What a judgment tells of the bytes judged, and when a stream stops.
 use Prim.Native.Nat.{ℕ, ◌+◌, ◌-◌, ◌≤◌, ◌<◌}
-use mathlib.Core.Path.{◌≡◌, refl}
+use mathlib.Core.Path.{◌≡◌, refl, sym, subst, ◌∙◌}
 use mathlib.Core.Bool.{Bool, true, false}
 use mathlib.Core.List.{List, ◌++◌}
 use mathlib.Core.Logic.{◌⊎◌, inl, inr}
@@ -11,13 +11,34 @@ use lib.ListN.{length, get_or, get_or-append}
 use Rattle.std.specs.Prelude.{if◌then◌else◌}
 use Rattle.rules.specs.Basic.{little_endian_at}
 use Rattle.frames.specs.declared.FrameLength.{FrameLength}
+use Rattle.frames.specs.declared.BodyLength.{BodyLength}
 use Rattle.frames.specs.declared.Kind.{Kind}
-use Rattle.frames.specs.declared.NamedKind.{NamedKind}
-use Rattle.frames.specs.declared.NamedKind.TheVariants.{Known, Unknown}
+use Rattle.std.specs.Prelude.{Option, Some, None}
 use Rattle.frames.specs.declared.Fault.TheVariants.{BadLength, UnknownKind, BadCheck}
 use Rattle.frames.specs.declared.Step.{Step}
 use Rattle.frames.specs.declared.Step.TheVariants.{Whole, NotYet, Stopped}
 use Rattle.frames.specs.Frames.{around, longest, in_frame, in_body, kind_numbered, by_kind, judged_by_head, check_right, checked, judged}
+
+-- a choice by a test of two numbers
+pub by_ltb : {A : Type 0} (P : A → Type 0) (a b : ℕ) {x y : A} → (a < b → P x) → (b ≤ a → P y) → P (if ltb a b then x else y)
+by_ltb P a b {x} {y} low high = go (ltb a b) refl
+  where
+    go : (t : Bool) → ltb a b ≡ t → P (if t then x else y)
+    go true e = low (ltb-true a b e)
+    go false e = high (ltb-false a b e)
+
+pub low_or_high : (a b : ℕ) → (a < b) ⊎ (b ≤ a)
+low_or_high a b = go (ltb a b) refl
+  where
+    go : (t : Bool) → ltb a b ≡ t → (a < b) ⊎ (b ≤ a)
+    go true e = inl (ltb-true a b e)
+    go false e = inr (ltb-false a b e)
+
+-- a whole frame has its two last bytes
+pub whole_long : (s : Step) (bs : List ℕ) (k : Kind) (n : BodyLength) → s ≡ judged_by_head bs → s ≡ Whole k n → 2 ≤ length bs
+unfolding judged_by_head
+whole_long s bs k n e h =
+    by_ltb (λ (t : Step). Whole k n ≡ t → 2 ≤ length bs) (length bs) 2 (λ low f. let z : ◌≡◌ {A = ℕ} 0 1 = cc in absurd (omega arith)) (λ two f. two) (sym h ∙ e)
 
 -- a number at the front is the same with more bytes behind
 pub number_front : (j : ℕ) (p q : List ℕ) → j + 1 < length p → little_endian_at j p ≡ little_endian_at j (p ++ q)
@@ -41,51 +62,33 @@ pub data Judgment (bs : List ℕ) : Step → Type 0 where
   too_long : 2 ≤ length bs → longest < little_endian_at 0 bs → Judgment bs (Stopped BadLength)
   passed : 2 ≤ length bs → around ≤ little_endian_at 0 bs → little_endian_at 0 bs < length bs → Judgment bs (Stopped BadLength)
   no_kind : Good bs → length bs < 4 → Judgment bs (NotYet (in_frame (length bs)))
-  unknown : Good bs → 4 ≤ length bs → kind_numbered (little_endian_at 2 bs) ≡ Unknown → Judgment bs (Stopped UnknownKind)
-  no_end : {k : Kind} → Good bs → 4 ≤ length bs → kind_numbered (little_endian_at 2 bs) ≡ Known k → length bs < little_endian_at 0 bs → Judgment bs (NotYet (in_frame (length bs)))
-  whole : {k : Kind} → Good bs → 4 ≤ length bs → kind_numbered (little_endian_at 2 bs) ≡ Known k → length bs ≡ little_endian_at 0 bs → check_right bs ≡ true → Judgment bs (Whole k (in_body (length bs - around)))
-  bad_check : {k : Kind} → Good bs → 4 ≤ length bs → kind_numbered (little_endian_at 2 bs) ≡ Known k → length bs ≡ little_endian_at 0 bs → check_right bs ≡ false → Judgment bs (Stopped BadCheck)
+  unknown : Good bs → 4 ≤ length bs → kind_numbered (little_endian_at 2 bs) ≡ None → Judgment bs (Stopped UnknownKind)
+  no_end : {k : Kind} → Good bs → 4 ≤ length bs → kind_numbered (little_endian_at 2 bs) ≡ Some k → length bs < little_endian_at 0 bs → Judgment bs (NotYet (in_frame (length bs)))
+  whole : {k : Kind} → Good bs → 4 ≤ length bs → kind_numbered (little_endian_at 2 bs) ≡ Some k → length bs ≡ little_endian_at 0 bs → check_right bs ≡ true → Judgment bs (Whole k (in_body (length bs - around)))
+  bad_check : {k : Kind} → Good bs → 4 ≤ length bs → kind_numbered (little_endian_at 2 bs) ≡ Some k → length bs ≡ little_endian_at 0 bs → check_right bs ≡ false → Judgment bs (Stopped BadCheck)
 
-judgment_check : (bs : List ℕ) (k : Kind) (c : Bool) → Good bs → 4 ≤ length bs → kind_numbered (little_endian_at 2 bs) ≡ Known k → length bs ≡ little_endian_at 0 bs → check_right bs ≡ c
+judgment_check : (bs : List ℕ) (k : Kind) (c : Bool) → Good bs → 4 ≤ length bs → kind_numbered (little_endian_at 2 bs) ≡ Some k → length bs ≡ little_endian_at 0 bs → check_right bs ≡ c
     → Judgment bs (if c then Whole k (in_body (length bs - around)) else Stopped BadCheck)
 judgment_check bs k true g l e n c = whole g l e n c
 judgment_check bs k false g l e n c = bad_check g l e n c
 
-judgment_kind : (bs : List ℕ) (m : NamedKind) (t : Bool) → Good bs → 4 ≤ length bs → kind_numbered (little_endian_at 2 bs) ≡ m → ltb (length bs) (little_endian_at 0 bs) ≡ t
-    → Judgment bs (checked (by_kind m bs) bs)
+judgment_kind : (bs : List ℕ) (m : Option Kind) → Good bs → 4 ≤ length bs → kind_numbered (little_endian_at 2 bs) ≡ m → Judgment bs (checked (by_kind m bs) bs)
 unfolding checked by_kind
-judgment_kind bs Unknown t g l e h = unknown g l e
-judgment_kind bs (Known k) true g l e h = rw h (no_end g l e (ltb-true (length bs) (little_endian_at 0 bs) h))
-judgment_kind bs (Known k) false g l e h = rw h (judgment_check bs k (check_right bs) g l e (omega (arith, ltb-false (length bs) (little_endian_at 0 bs) h)) refl)
-
-judgment_head : (bs : List ℕ) (t₁ t₂ t₃ t₄ t₅ : Bool) → ltb (length bs) 2 ≡ t₁ → ltb (little_endian_at 0 bs) around ≡ t₂ → ltb longest (little_endian_at 0 bs) ≡ t₃
-    → ltb (little_endian_at 0 bs) (length bs) ≡ t₄ → ltb (length bs) 4 ≡ t₅
-    → Judgment bs (checked (if t₁ then NotYet (in_frame (length bs)) else (if t₂ then Stopped BadLength else (if t₃ then Stopped BadLength else (if t₄ then Stopped BadLength
-    else (if t₅ then NotYet (in_frame (length bs)) else by_kind (kind_numbered (little_endian_at 2 bs)) bs))))) bs)
-unfolding checked
-judgment_head bs true t₂ t₃ t₄ t₅ h₁ h₂ h₃ h₄ h₅ = no_length (ltb-true (length bs) 2 h₁)
-judgment_head bs false true t₃ t₄ t₅ h₁ h₂ h₃ h₄ h₅ = too_short (ltb-false (length bs) 2 h₁) (ltb-true (little_endian_at 0 bs) around h₂)
-judgment_head bs false false true t₄ t₅ h₁ h₂ h₃ h₄ h₅ = too_long (ltb-false (length bs) 2 h₁) (ltb-true longest (little_endian_at 0 bs) h₃)
-judgment_head bs false false false true t₅ h₁ h₂ h₃ h₄ h₅ =
-    passed (ltb-false (length bs) 2 h₁) (ltb-false (little_endian_at 0 bs) around h₂) (ltb-true (little_endian_at 0 bs) (length bs) h₄)
-judgment_head bs false false false false t₅ h₁ h₂ h₃ h₄ h₅ =
-    let g : Good bs =
-    record {
-      there = ltb-false (length bs) 2 h₁;
-      least = ltb-false (little_endian_at 0 bs) around h₂;
-      most = ltb-false longest (little_endian_at 0 bs) h₃;
-      within = ltb-false (little_endian_at 0 bs) (length bs) h₄;
-    } in
-    go t₅ h₅ g
-  where
-    go : (t : Bool) → ltb (length bs) 4 ≡ t → Good bs → Judgment bs (checked (if t then NotYet (in_frame (length bs)) else by_kind (kind_numbered (little_endian_at 2 bs)) bs) bs)
-    go true h g = unfold checked in no_kind g (ltb-true (length bs) 4 h)
-    go false h g = judgment_kind bs (kind_numbered (little_endian_at 2 bs)) (ltb (length bs) (little_endian_at 0 bs)) g (ltb-false (length bs) 4 h) refl refl
+judgment_kind bs None g l e = unknown g l e
+judgment_kind bs (Some k) g l e =
+    by_ltb (λ s. Judgment bs (checked s bs)) (length bs) (little_endian_at 0 bs) (no_end g l e)
+    (λ n. judgment_check bs k (check_right bs) g l e (omega (arith, g.within)) refl)
 
 pub judgment : (bs : List ℕ) → Judgment bs (judged bs)
-unfolding judged judged_by_head
+unfolding judged judged_by_head checked
 judgment bs =
-    judgment_head bs (ltb (length bs) 2) (ltb (little_endian_at 0 bs) around) (ltb longest (little_endian_at 0 bs)) (ltb (little_endian_at 0 bs) (length bs)) (ltb (length bs) 4) refl refl refl refl refl
+    let P = λ (s : Step). Judgment bs (checked s bs) in
+    by_ltb P (length bs) 2 no_length (λ two.
+    by_ltb P (little_endian_at 0 bs) around (too_short two) (λ least.
+    by_ltb P longest (little_endian_at 0 bs) (too_long two) (λ most.
+    by_ltb P (little_endian_at 0 bs) (length bs) (passed two least) (λ within.
+    let good : Good bs = record { there = two; least = least; most = most; within = within } in
+    by_ltb P (length bs) 4 (no_kind good) (λ four. judgment_kind bs (kind_numbered (little_endian_at 2 bs)) good four refl)))))
 
 -- sizes -----------------------------------------------------------------------------------------------------------------------
 
@@ -110,40 +113,39 @@ tells (bad_check g l e n c) = tt
 pub judged_tells : (bs : List ℕ) → Tells (length bs) (judged bs)
 judged_tells bs = tells (judgment bs)
 
-long_stops : {bs : List ℕ} {s : Step} → Judgment bs s → longest < length bs → s ≡ Stopped BadLength
-long_stops (no_length h) l = absurd (omega arith)
-long_stops (too_short h n) l = refl
-long_stops (too_long h n) l = refl
-long_stops (passed h n m) l = refl
-long_stops (no_kind g h) l = absurd (omega arith)
-long_stops (unknown g h e) l = absurd (omega arith)
-long_stops (no_end g h e n) l = absurd (omega arith)
-long_stops (whole g h e n c) l = absurd (omega arith)
-long_stops (bad_check g h e n c) l = absurd (omega arith)
-
 -- more bytes than the longest frame has are a bad length
 pub judged_long : (bs : List ℕ) → longest < length bs → judged bs ≡ Stopped BadLength
-judged_long bs l = long_stops (judgment bs) l
+unfolding judged judged_by_head checked
+judged_long bs l =
+    let P = λ (s : Step). checked s bs ≡ Stopped BadLength in
+    rw (le-ltb (length bs) 2 (omega arith))
+    (by_ltb P (little_endian_at 0 bs) around (λ least. refl) (λ least.
+    by_ltb P longest (little_endian_at 0 bs) (λ most. refl) (λ most. rw (lt-ltb (little_endian_at 0 bs) (length bs) (omega arith)))))
 
 -- bytes that are not yet a frame ----------------------------------------------------------------------------------------------
 
 pub record Going (bs : List ℕ) : Type 0 where
   pub length_good : 2 ≤ length bs → (around ≤ little_endian_at 0 bs) × (little_endian_at 0 bs ≤ longest) × (length bs < little_endian_at 0 bs)
-  pub kind_known : 4 ≤ length bs → (k : Kind) × (kind_numbered (little_endian_at 2 bs) ≡ Known k)
+  pub kind_known : 4 ≤ length bs → (k : Kind) × (kind_numbered (little_endian_at 2 bs) ≡ Some k)
 
-going_by : {bs : List ℕ} {s : Step} {n : FrameLength} → Judgment bs s → s ≡ NotYet n → Going bs
-going_by (no_length h) e = record { length_good = λ l. absurd (omega arith); kind_known = λ l. absurd (omega arith) }
-going_by (too_short h l) e = let z : ◌≡◌ {A = ℕ} 0 1 = cc in absurd (omega arith)
-going_by (too_long h l) e = let z : ◌≡◌ {A = ℕ} 0 1 = cc in absurd (omega arith)
-going_by (passed h l n) e = let z : ◌≡◌ {A = ℕ} 0 1 = cc in absurd (omega arith)
-going_by (no_kind g h) e = record { length_good = λ l. (g.least, g.most, omega arith); kind_known = λ l. absurd (omega arith) }
-going_by (unknown g l h) e = let z : ◌≡◌ {A = ℕ} 0 1 = cc in absurd (omega arith)
-going_by (no_end {k = k} g l h n) e = record { length_good = λ i. (g.least, g.most, n); kind_known = λ i. (k, h) }
-going_by (whole g l h n c) e = let z : ◌≡◌ {A = ℕ} 0 1 = cc in absurd (omega arith)
-going_by (bad_check g l h n c) e = let z : ◌≡◌ {A = ℕ} 0 1 = cc in absurd (omega arith)
+abbrev Goes : List ℕ → Step → Type 0
+Goes bs (Whole k n) = Unit
+Goes bs (NotYet n) = Going bs
+Goes bs (Stopped f) = Unit
+
+goes : {bs : List ℕ} {s : Step} → Judgment bs s → Goes bs s
+goes (no_length h) = record { length_good = λ l. absurd (omega arith); kind_known = λ l. absurd (omega arith) }
+goes (too_short h l) = tt
+goes (too_long h l) = tt
+goes (passed h l n) = tt
+goes (no_kind g h) = record { length_good = λ l. (g.least, g.most, omega arith); kind_known = λ l. absurd (omega arith) }
+goes (unknown g l h) = tt
+goes (no_end {k = k} g l h n) = record { length_good = λ i. (g.least, g.most, n); kind_known = λ i. (k, h) }
+goes (whole g l h n c) = tt
+goes (bad_check g l h n c) = tt
 
 pub going : (bs : List ℕ) (n : FrameLength) → judged bs ≡ NotYet n → Going bs
-going bs n e = going_by (judgment bs) e
+going bs n e = subst (Goes bs) e (goes (judgment bs))
 
 -- they end before the length's end, the kind's, the frame's
 pub length_to_come : (p : List ℕ) → length p < 2 → judged p ≡ NotYet (in_frame (length p))
@@ -156,7 +158,7 @@ module _ (p : List ℕ) (n : ℕ) (a : little_endian_at 0 p ≡ n) (least : arou
   kind_to_come l h =
       rw (le-ltb (length p) 2 l, a, le-ltb n around least, le-ltb longest n most, le-ltb n (length p) (omega arith), lt-ltb (length p) 4 h)
 
-  pub end_to_come : (k : Kind) → 4 ≤ length p → kind_numbered (little_endian_at 2 p) ≡ Known k → length p < n → judged p ≡ NotYet (in_frame (length p))
+  pub end_to_come : (k : Kind) → 4 ≤ length p → kind_numbered (little_endian_at 2 p) ≡ Some k → length p < n → judged p ≡ NotYet (in_frame (length p))
   unfolding judged judged_by_head checked by_kind
   end_to_come k l b h =
       rw (le-ltb (length p) 2 (omega arith), a, le-ltb n around least, le-ltb longest n most, le-ltb n (length p) (omega arith), le-ltb (length p) 4 l, b)
@@ -175,10 +177,10 @@ module _ (p : List ℕ) (n : ℕ) (a : little_endian_at 0 p ≡ n) (least : arou
   head_passed =
       rw (le-ltb (length p) 2 (omega arith), a, le-ltb n around least, le-ltb longest n most, le-ltb n (length p) within, le-ltb (length p) 4 there)
 
-  pub kind_stops : kind_numbered (little_endian_at 2 p) ≡ Unknown → judged p ≡ Stopped UnknownKind
+  pub kind_stops : kind_numbered (little_endian_at 2 p) ≡ None → judged p ≡ Stopped UnknownKind
   unfolding judged checked by_kind
   kind_stops e = rw (head_passed, e)
 
-  pub check_stops : (k : Kind) → kind_numbered (little_endian_at 2 p) ≡ Known k → n ≤ length p → check_right p ≡ false → judged p ≡ Stopped BadCheck
+  pub check_stops : (k : Kind) → kind_numbered (little_endian_at 2 p) ≡ Some k → n ≤ length p → check_right p ≡ false → judged p ≡ Stopped BadCheck
   unfolding judged checked by_kind
   check_stops k e h c = rw (head_passed, e, a, le-ltb (length p) n h, c)

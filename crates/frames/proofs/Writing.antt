@@ -1,10 +1,8 @@
 -- Frames written part by part.
 use Prim.Native.Nat.{ℕ, ◌+◌, ◌-◌, ◌≤◌}
-use mathlib.Core.Path.{◌≡◌, refl, ap, ◌∙◌}
-use mathlib.Core.List.{List, [], ◌∷◌, ◌++◌}
+use mathlib.Core.Path.{◌≡◌, ap, ◌∙◌}
+use mathlib.Core.List.{List, ◌++◌}
 use native.Mathlib.Omega.{arith}
-use denote.Enum.Declared.{tag_of}
-use types.Run.{OneOf}
 use borrow.Author.Tests.{le-ltb}
 use lib.ListN.{length, take, drop, length-append}
 use lib.Seq.{take_at}
@@ -12,12 +10,9 @@ use Rattle.rules.specs.Basic.{little_endian}
 use Rattle.primitives.specs.Bytes.{over}
 use Rattle.primitives.proofs.Over.{over_over}
 use Rattle.frames.specs.declared.Kind.{Kind}
-use Rattle.frames.specs.declared.WriteRefusal.{WriteRefusal}
-use Rattle.frames.specs.declared.Written.{Written}
-use Rattle.frames.specs.declared.Written.TheVariants.{Frame as Wrote, Refused}
-use Rattle.frames.specs.contracts.Written.{the_type}
+use Rattle.std.specs.Prelude.{Ok}
 use Rattle.remainder.specs.Remainder.{remainder}
-use Rattle.frames.specs.Frames.{around, longest_body, in_frame, kind_number, refusal_number, written_number, unchecked, frame_bytes, Writing, written, writing, HostWrites}
+use Rattle.frames.specs.Frames.{around, longest_body, in_frame, unchecked, frame_bytes, written, writing}
 
 pub unchecked_length : (k : Kind) (body : List ℕ) → length (unchecked k body) ≡ length body + 4
 unfolding unchecked
@@ -31,26 +26,11 @@ front_over : (y xs : List ℕ) (n : ℕ) → length y ≡ n → over 0 y xs ≡ 
 unfolding over
 front_over y xs n e = let z : 0 + length y ≡ n = omega arith in ap (λ m. y ++ drop m xs) z
 
--- `write_unchecked`: length, kind and body one behind another
-pub unchecked_by : (k : Kind) (body room q₁ q₂ r : List ℕ) (n m : ℕ) → q₁ ≡ over 0 (little_endian n) room → q₂ ≡ over 2 (little_endian m) q₁ → r ≡ over 4 body q₂
-    → n ≡ length body + around → m ≡ kind_number k → length body + 4 ≤ length room → r ≡ over 0 (unchecked k body) room
-unfolding unchecked
-unchecked_by k body room q₁ q₂ r n m e₁ e₂ e₃ en em h =
-    let two : over 2 (little_endian m) (over 0 (little_endian n) room) ≡ over 0 (little_endian n ++ little_endian m) room =
-    over_over 0 2 (little_endian n) (little_endian m) room refl (omega arith) in
-    e₃ ∙ ap (over 4 body) (e₂ ∙ ap (over 2 (little_endian m)) e₁ ∙ two)
-    ∙ over_over 0 4 (little_endian n ++ little_endian m) body room refl (omega arith) ∙ rw (en, em)
-
--- `write_check`
-pub check_written : (room part r : List ℕ) (end x : ℕ) → x ≡ remainder part → r ≡ over end (little_endian x) room
-    → r ≡ over end (little_endian (remainder part)) room
-check_written room part r end x e f = f ∙ ap (λ n. over end (little_endian n) room) e
-
 -- `write_frame`: the check of what stands before it
 pub frame_written : (k : Kind) (body room q r : List ℕ) → q ≡ over 0 (unchecked k body) room
     → r ≡ over (length body + 4) (little_endian (remainder (take (length body + 4 - 0) q))) q
     → length body ≤ longest_body → length body + around ≤ length room
-    → written (Wrote (in_frame (length body + around))) r ≡ writing k body room
+    → written (Ok (in_frame (length body + around))) r ≡ writing k body room
 unfolding writing frame_bytes
 frame_written k body room q r e f h l =
     let u = unchecked k body in
@@ -62,20 +42,4 @@ frame_written k body room q r e f h l =
     f ∙ ap (λ i. over (length body + 4) (little_endian (remainder (take i q))) q) all ∙ ap (λ x. over (length body + 4) (little_endian (remainder x)) q) front ∙ ap (over (length body + 4) c) e
     ∙ over_over 0 (length body + 4) u c room (omega arith) (omega arith) in
     rw (le-ltb longest_body (length body) h, le-ltb (length room) (length body + around) l)
-    (ap (written (Wrote (in_frame (length body + around)))) (placed ∙ front_over (u ++ c) room (length body + around) (simp length-append (omega arith))))
-
--- `written_number`
-pub wrote_zero : (w : Written) → OneOf (0 ∷ []) (tag_of the_type w) → 0 ≡ written_number w
-unfolding written_number
-wrote_zero (Wrote n) e = refl
-wrote_zero (Refused r) e = absurd (omega arith)
-
-pub refused_by : (w : Written) (r : WriteRefusal) (n : ℕ) → w ≡ Refused r → n ≡ refusal_number r → n ≡ written_number w
-unfolding written_number
-refused_by w r n e f = rw e f
-
--- `write_for_host`
-pub host_writes : (k : Kind) (body room after : List ℕ) (w : Written) (n : ℕ) → written w after ≡ writing k body room → n ≡ written_number w
-    → HostWrites k body room n after
-host_writes k body room after w n e f =
-    record { told = f ∙ ap (λ (a : Writing). written_number a.answer) e; left = ap (λ (a : Writing). a.room) e }
+    (ap (written (Ok (in_frame (length body + around)))) (placed ∙ front_over (u ++ c) room (length body + around) (simp length-append (omega arith))))

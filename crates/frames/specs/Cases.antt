@@ -1,21 +1,18 @@
 -- Cases that antt computes from the rules of frames. What they expect is written by hand, with no rule's own function; the checks were worked out
 -- elsewhere, by a long division of the bits.
-use Rattle.std.specs.Prelude.{ℕ, Bool, true, false, ◌&&◌, List, [], ◌∷◌, ◌++◌, eqb, length, replicate}
+use Rattle.std.specs.Prelude.{ℕ, Bool, true, false, ◌&&◌, Option, Some, None, Result, Ok, Err, List, [], ◌∷◌, ◌++◌, eqb, length, replicate}
 use Rattle.std.specs.Bool.{beq}
 use Rattle.rules.specs.Basic.{same, zeros}
 use Rattle.rules.specs.Hex.{hex}
+use Rattle.frames.specs.declared.FrameLength.{FrameLength}
 use Rattle.frames.specs.declared.Kind.{Kind}
 use Rattle.frames.specs.declared.Kind.TheVariants.{Command, Response}
-use Rattle.frames.specs.declared.NamedKind.{NamedKind}
-use Rattle.frames.specs.declared.NamedKind.TheVariants.{Known, Unknown}
 use Rattle.frames.specs.declared.Fault.{Fault}
 use Rattle.frames.specs.declared.Fault.TheVariants.{BadLength, UnknownKind, BadCheck}
 use Rattle.frames.specs.declared.Step.{Step}
 use Rattle.frames.specs.declared.Step.TheVariants.{Whole, NotYet, Stopped}
 use Rattle.frames.specs.declared.WriteRefusal.{WriteRefusal}
 use Rattle.frames.specs.declared.WriteRefusal.TheVariants.{BodyTooLong, RoomTooSmall}
-use Rattle.frames.specs.declared.Written.{Written}
-use Rattle.frames.specs.declared.Written.TheVariants.{Frame as Wrote, Refused}
 use Rattle.frames.specs.Frames.{kind_number, kind_numbered, fault_number, refusal_number, written_number}
 use Rattle.frames.specs.Frames.{unchecked, frame_bytes, body_at, judged_by_head, check_right, judged, writing}
 
@@ -27,54 +24,40 @@ whole k n = Whole k (record { 0 = n })
 abbrev pub not_yet : ℕ → Step
 not_yet n = NotYet (record { 0 = n })
 
-abbrev pub wrote : ℕ → Written
-wrote n = Wrote (record { 0 = n })
+abbrev pub wrote : ℕ → Result FrameLength WriteRefusal
+wrote n = Ok (record { 0 = n })
 
 unfoldable pub same_kind : Kind → Kind → Bool
 same_kind Command Command = true
-same_kind Command Response = false
-same_kind Response Command = false
 same_kind Response Response = true
+same_kind k l = false
 
-unfoldable pub same_named : NamedKind → NamedKind → Bool
-same_named (Known k) (Known l) = same_kind k l
-same_named (Known k) Unknown = false
-same_named Unknown (Known l) = false
-same_named Unknown Unknown = true
+unfoldable pub same_named : Option Kind → Option Kind → Bool
+same_named (Some k) (Some l) = same_kind k l
+same_named None None = true
+same_named m n = false
 
 unfoldable pub same_fault : Fault → Fault → Bool
 same_fault BadLength BadLength = true
-same_fault BadLength UnknownKind = false
-same_fault BadLength BadCheck = false
-same_fault UnknownKind BadLength = false
 same_fault UnknownKind UnknownKind = true
-same_fault UnknownKind BadCheck = false
-same_fault BadCheck BadLength = false
-same_fault BadCheck UnknownKind = false
 same_fault BadCheck BadCheck = true
+same_fault f g = false
 
 unfoldable pub same_step : Step → Step → Bool
 same_step (Whole k n) (Whole l m) = same_kind k l && eqb n.0 m.0
-same_step (Whole k n) (NotYet m) = false
-same_step (Whole k n) (Stopped g) = false
-same_step (NotYet n) (Whole l m) = false
 same_step (NotYet n) (NotYet m) = eqb n.0 m.0
-same_step (NotYet n) (Stopped g) = false
-same_step (Stopped f) (Whole l m) = false
-same_step (Stopped f) (NotYet m) = false
 same_step (Stopped f) (Stopped g) = same_fault f g
+same_step s t = false
 
 unfoldable pub same_refusal : WriteRefusal → WriteRefusal → Bool
 same_refusal BodyTooLong BodyTooLong = true
-same_refusal BodyTooLong RoomTooSmall = false
-same_refusal RoomTooSmall BodyTooLong = false
 same_refusal RoomTooSmall RoomTooSmall = true
+same_refusal r s = false
 
-unfoldable pub same_written : Written → Written → Bool
-same_written (Wrote n) (Wrote m) = eqb n.0 m.0
-same_written (Wrote n) (Refused s) = false
-same_written (Refused r) (Wrote m) = false
-same_written (Refused r) (Refused s) = same_refusal r s
+unfoldable pub same_written : Result FrameLength WriteRefusal → Result FrameLength WriteRefusal → Bool
+same_written (Ok n) (Ok m) = eqb n.0 m.0
+same_written (Err r) (Err s) = same_refusal r s
+same_written w v = false
 
 -- cases ------------------------------------------------------------------------------------------------------------------
 
@@ -83,8 +66,8 @@ pub data Case : Type 0 where
   kind_has : Kind → ℕ → Case
   fault_has : Fault → ℕ → Case
   refusal_has : WriteRefusal → ℕ → Case
-  answer_has : Written → ℕ → Case
-  number_of : ℕ → NamedKind → Case
+  answer_has : Result FrameLength WriteRefusal → ℕ → Case
+  number_of : ℕ → Option Kind → Case
   -- a kind and a body in bytes: up to the check, and whole
   begun : Kind → (body bytes : List ℕ) → Case
   framed : Kind → (body bytes : List ℕ) → Case
@@ -98,7 +81,7 @@ pub data Case : Type 0 where
   -- the last two bytes are the check of those before them
   checks : List ℕ → Bool → Case
   -- a frame written into this room: the answer, its number for a host in C, and the room after it
-  writes : Kind → (body room : List ℕ) → Written → ℕ → (after : List ℕ) → Case
+  writes : Kind → (body room : List ℕ) → Result FrameLength WriteRefusal → ℕ → (after : List ℕ) → Case
 
 unfoldable pub each_right : (before rest : List ℕ) → Step → Bool
 each_right before [] last = same_step (judged before) last
@@ -151,12 +134,12 @@ longest_frame = hex "1B 06 01 00" ++ zeros 1557 ++ hex "2A DD"
 unfoldable pub frame_cases : List Case
 frame_cases =
     -- numbers of kinds, and no others: neither the next ones, nor the bytes swapped, nor a high byte beside a known low one
-    kind_has Command 0x0001 ∷ kind_has Response 0x0002 ∷ number_of 0x0001 (Known Command) ∷ number_of 0x0002 (Known Response) ∷
-    number_of 0x0000 Unknown ∷ number_of 0x0003 Unknown ∷ number_of 0x0100 Unknown ∷ number_of 0x0200 Unknown ∷ number_of 0x0101 Unknown ∷
-    number_of 0x0201 Unknown ∷ number_of 0x0102 Unknown ∷ number_of 0xFFFF Unknown ∷
+    kind_has Command 0x0001 ∷ kind_has Response 0x0002 ∷ number_of 0x0001 (Some Command) ∷ number_of 0x0002 (Some Response) ∷
+    number_of 0x0000 None ∷ number_of 0x0003 None ∷ number_of 0x0100 None ∷ number_of 0x0200 None ∷ number_of 0x0101 None ∷
+    number_of 0x0201 None ∷ number_of 0x0102 None ∷ number_of 0xFFFF None ∷
     -- numbers of faults, of refusals, and of the writer's answer
     fault_has BadLength 1 ∷ fault_has UnknownKind 2 ∷ fault_has BadCheck 3 ∷ refusal_has BodyTooLong 1 ∷ refusal_has RoomTooSmall 2 ∷
-    answer_has (wrote 6) 0 ∷ answer_has (wrote 1563) 0 ∷ answer_has (Refused BodyTooLong) 1 ∷ answer_has (Refused RoomTooSmall) 2 ∷
+    answer_has (wrote 6) 0 ∷ answer_has (wrote 1563) 0 ∷ answer_has (Err BodyTooLong) 1 ∷ answer_has (Err RoomTooSmall) 2 ∷
     -- a frame up to its check: length, kind, body; the length counts the check too, and has two bytes
     begun Command [] (hex "06 00 01 00") ∷ begun Response [] (hex "06 00 02 00") ∷ begun Command (hex "A1 B2") (hex "08 00 01 00 A1 B2") ∷
     begun Command (replicate 249 0x5A) (hex "FF 00 01 00" ++ replicate 249 0x5A) ∷
@@ -219,16 +202,16 @@ frame_cases =
     -- the writer: the frame at the front, the rest of the room as it was; room just enough, and one byte short
     writes Response done (replicate 12 0xEE) (wrote 10) 0 (done_frame ++ hex "EE EE") ∷
     writes Response done (hex "01 02 03 04 05 06 07 08 09 0A") (wrote 10) 0 done_frame ∷
-    writes Response done (hex "01 02 03 04 05 06 07 08 09") (Refused RoomTooSmall) 2 (hex "01 02 03 04 05 06 07 08 09") ∷
+    writes Response done (hex "01 02 03 04 05 06 07 08 09") (Err RoomTooSmall) 2 (hex "01 02 03 04 05 06 07 08 09") ∷
     writes Command reading (zeros 16 ++ hex "11 22 33") (wrote 16) 0 (reading_frame ++ hex "11 22 33") ∷
     writes Command [] (hex "EE EE EE EE EE EE EE") (wrote 6) 0 (hex "06 00 01 00 42 52 EE") ∷
     writes Command [] (hex "EE EE EE EE EE EE") (wrote 6) 0 (hex "06 00 01 00 42 52") ∷
-    writes Command [] (hex "01 02 03 04 05") (Refused RoomTooSmall) 2 (hex "01 02 03 04 05") ∷ writes Response [] [] (Refused RoomTooSmall) 2 [] ∷
+    writes Command [] (hex "01 02 03 04 05") (Err RoomTooSmall) 2 (hex "01 02 03 04 05") ∷ writes Response [] [] (Err RoomTooSmall) 2 [] ∷
     -- a body of 1,557 bytes and no more, asked before the room
-    writes Command (zeros 1557) (replicate 1562 0xEE) (Refused RoomTooSmall) 2 (replicate 1562 0xEE) ∷
-    writes Command (zeros 1557) [] (Refused RoomTooSmall) 2 [] ∷
-    writes Command (zeros 1558) (replicate 1564 0xEE) (Refused BodyTooLong) 1 (replicate 1564 0xEE) ∷
-    writes Response (zeros 1558) (hex "01") (Refused BodyTooLong) 1 (hex "01") ∷ []
+    writes Command (zeros 1557) (replicate 1562 0xEE) (Err RoomTooSmall) 2 (replicate 1562 0xEE) ∷
+    writes Command (zeros 1557) [] (Err RoomTooSmall) 2 [] ∷
+    writes Command (zeros 1558) (replicate 1564 0xEE) (Err BodyTooLong) 1 (replicate 1564 0xEE) ∷
+    writes Response (zeros 1558) (hex "01") (Err BodyTooLong) 1 (hex "01") ∷ []
 
 -- the longest frame: written, judged, and a byte short of it
 unfoldable pub longest_cases : List Case

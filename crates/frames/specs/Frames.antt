@@ -1,29 +1,25 @@
 -- Frames: length 2, kind 2, body, check 2, all least significant byte first, the length counting the whole frame.
-use Rattle.std.specs.Prelude.{ℕ, ◌+◌, ◌-◌, Bool, ◌≡◌, List, ◌++◌, eqb, ltb, length, take, drop, if◌then◌else◌}
+use Rattle.std.specs.Prelude.{ℕ, ◌+◌, ◌-◌, Bool, ◌≡◌, Option, Some, None, Result, Ok, Err, List, ◌++◌, eqb, ltb, length, take, drop, if◌then◌else◌}
 use Rattle.rules.specs.Basic.{little_endian, little_endian_at}
 use Rattle.remainder.specs.Remainder.{remainder}
 use Rattle.frames.specs.declared.FrameLength.{FrameLength}
 use Rattle.frames.specs.declared.BodyLength.{BodyLength}
 use Rattle.frames.specs.declared.Kind.{Kind}
 use Rattle.frames.specs.declared.Kind.TheVariants.{Command, Response}
-use Rattle.frames.specs.declared.NamedKind.{NamedKind}
-use Rattle.frames.specs.declared.NamedKind.TheVariants.{Known, Unknown}
 use Rattle.frames.specs.declared.Fault.{Fault}
 use Rattle.frames.specs.declared.Fault.TheVariants.{BadLength, UnknownKind, BadCheck}
 use Rattle.frames.specs.declared.Step.{Step}
 use Rattle.frames.specs.declared.Step.TheVariants.{Whole, NotYet, Stopped}
 use Rattle.frames.specs.declared.WriteRefusal.{WriteRefusal}
 use Rattle.frames.specs.declared.WriteRefusal.TheVariants.{BodyTooLong, RoomTooSmall}
-use Rattle.frames.specs.declared.Written.{Written}
-use Rattle.frames.specs.declared.Written.TheVariants.{Frame as Wrote, Refused}
 
 -- the number of each kind, and the kind of a number
 abbrev pub kind_number : Kind → ℕ
 kind_number Command = 0x0001
 kind_number Response = 0x0002
 
-unfoldable pub kind_numbered : ℕ → NamedKind
-kind_numbered n = if eqb n 0x0001 then Known Command else (if eqb n 0x0002 then Known Response else Unknown)
+unfoldable pub kind_numbered : ℕ → Option Kind
+kind_numbered n = if eqb n 0x0001 then Some Command else (if eqb n 0x0002 then Some Response else None)
 
 -- what a stream stops with, and what the writer refuses with
 abbrev pub fault_number : Fault → ℕ
@@ -35,9 +31,9 @@ abbrev pub refusal_number : WriteRefusal → ℕ
 refusal_number BodyTooLong = 1
 refusal_number RoomTooSmall = 2
 
-unfoldable pub written_number : Written → ℕ
-written_number (Wrote n) = 0
-written_number (Refused r) = refusal_number r
+unfoldable pub written_number : Result FrameLength WriteRefusal → ℕ
+written_number (Ok n) = 0
+written_number (Err r) = refusal_number r
 
 -- the bytes around a body, the longest frame and the longest body
 abbrev pub around : ℕ
@@ -70,10 +66,10 @@ body_at n bs = take n (drop 4 bs)
 -- Bytes of a frame, judged -----------------------------------------------------------------------------------------------
 
 -- by the kind: a known one goes on to the frame's last byte, as its length says
-unfoldable pub by_kind : NamedKind → List ℕ → Step
-by_kind (Known k) bs =
+unfoldable pub by_kind : Option Kind → List ℕ → Step
+by_kind (Some k) bs =
     if ltb (length bs) (little_endian_at 0 bs) then NotYet (in_frame (length bs)) else Whole k (in_body (length bs - around))
-by_kind Unknown bs = Stopped UnknownKind
+by_kind None bs = Stopped UnknownKind
 
 -- By length and kind, each as soon as its bytes are there. The third test of the length stops no stream that was started and
 -- fed (`stops_in_time` of crate dock): it says what becomes of lent bytes that a host has changed.
@@ -104,17 +100,17 @@ judged bs = checked (judged_by_head bs) bs
 
 -- the writer's answer and the room as it leaves it
 pub record Writing : Type 0 where
-  pub answer : Written
+  pub answer : Result FrameLength WriteRefusal
   pub room : List ℕ
 
-abbrev pub written : Written → List ℕ → Writing
+abbrev pub written : Result FrameLength WriteRefusal → List ℕ → Writing
 written r room = record { answer = r; room = room }
 
 unfoldable pub writing : Kind → (body room : List ℕ) → Writing
 writing k body room =
-    if ltb longest_body (length body) then written (Refused BodyTooLong) room else
-    (if ltb (length room) (length body + around) then written (Refused RoomTooSmall) room else
-    written (Wrote (in_frame (length body + around))) (frame_bytes k body ++ drop (length body + around) room))
+    if ltb longest_body (length body) then written (Err BodyTooLong) room else
+    (if ltb (length room) (length body + around) then written (Err RoomTooSmall) room else
+    written (Ok (in_frame (length body + around))) (frame_bytes k body ++ drop (length body + around) room))
 
 -- the number that a host in C is told, and its room
 pub record HostWrites (k : Kind) (body room : List ℕ) (number : ℕ) (after : List ℕ) : Type 0 where

@@ -5,7 +5,7 @@ ghost use Rattle.std.specs.Prelude.{◌≡◌, ◌+◌, ◌-◌, ◌≤◌, leng
 ghost use Rattle.rules.specs.Basic.{little_endian};
 ghost use Rattle.primitives.specs.Bytes.{over};
 ghost use Rattle.remainder.specs.Remainder.{remainder};
-ghost use Rattle.frames.specs.Frames.{kind_number, kind_numbered, fault_number, refusal_number, written_number};
+ghost use Rattle.frames.specs.Frames.{kind_number, kind_numbered, fault_number, refusal_number};
 ghost use Rattle.frames.specs.Frames.{around, unchecked, judged_by_head, check_right, judged, written, writing, HostWrites};
 
 // The bytes before a body, and those around it, which are the shortest frame.
@@ -19,28 +19,21 @@ pub const LONGEST: usize = 1563;
 const LONGEST_BODY: usize = LONGEST - AROUND;
 
 // So many bytes of a frame.
-#[derive(Clone, Copy)]
+#[derive(Clone, Copy, Debug, PartialEq, Eq)]
 pub struct FrameLength(pub u16);
 
 // So many bytes of a frame's body.
-#[derive(Clone, Copy)]
+#[derive(Clone, Copy, Debug, PartialEq, Eq)]
 pub struct BodyLength(pub u16);
 
-#[derive(Clone, Copy)]
+#[derive(Clone, Copy, Debug, PartialEq, Eq)]
 pub enum Kind {
     Command,
     Response,
 }
 
-// The kind of a number.
-#[derive(Clone, Copy)]
-pub enum NamedKind {
-    Known(Kind),
-    Unknown,
-}
-
 // Why a stream stops.
-#[derive(Clone, Copy)]
+#[derive(Clone, Copy, Debug, PartialEq, Eq)]
 pub enum Fault {
     BadLength,
     UnknownKind,
@@ -48,7 +41,7 @@ pub enum Fault {
 }
 
 // What the bytes of a frame so far amount to: a whole frame; bytes of one that is not complete; a fault.
-#[derive(Clone, Copy)]
+#[derive(Clone, Copy, Debug, PartialEq, Eq)]
 pub enum Step {
     Whole(Kind, BodyLength),
     NotYet(FrameLength),
@@ -56,70 +49,60 @@ pub enum Step {
 }
 
 // Why a frame is not written.
-#[derive(Clone, Copy)]
+#[derive(Clone, Copy, Debug, PartialEq, Eq)]
 pub enum WriteRefusal {
     BodyTooLong,
     RoomTooSmall,
 }
 
-// The frame at the front of the room, or why there is none.
-#[derive(Clone, Copy)]
-pub enum Written {
-    Frame(FrameLength),
-    Refused(WriteRefusal),
-}
+impl From<Kind> for u16 {
+    ghost from_gives = { λ kind n. n ≡ kind_number kind };
 
-pub fn fault_number(fault: Fault) -> u16
-    ensures { result ≡ fault_number fault }
-{
-    match fault {
-        Fault::BadLength => 1,
-        Fault::UnknownKind => 2,
-        Fault::BadCheck => 3,
+    fn from(kind: Kind) -> u16 {
+        match kind {
+            Kind::Command => 1,
+            Kind::Response => 2,
+        }
     }
 }
 
-fn refusal_number(refusal: WriteRefusal) -> u8
-    ensures { result ≡ refusal_number refusal }
-{
-    match refusal {
-        WriteRefusal::BodyTooLong => 1,
-        WriteRefusal::RoomTooSmall => 2,
+// The number that a stream stops with.
+impl From<Fault> for u16 {
+    ghost from_gives = { λ fault n. n ≡ fault_number fault };
+
+    fn from(fault: Fault) -> u16 {
+        match fault {
+            Fault::BadLength => 1,
+            Fault::UnknownKind => 2,
+            Fault::BadCheck => 3,
+        }
     }
 }
 
-// 0 where the frame is written, else the refusal's number.
-fn written_number(written: Written) -> u8
-    ensures { result ≡ written_number written }
-{
-    match written {
-        Written::Frame(_) => 0,
-        Written::Refused(refusal) => refusal_number(refusal),
+impl From<WriteRefusal> for u8 {
+    ghost from_gives = { λ refusal n. n ≡ refusal_number refusal };
+
+    fn from(refusal: WriteRefusal) -> u8 {
+        match refusal {
+            WriteRefusal::BodyTooLong => 1,
+            WriteRefusal::RoomTooSmall => 2,
+        }
     }
 }
 
-pub fn kind_number(kind: Kind) -> u16
-    ensures { result ≡ kind_number kind }
-{
-    match kind {
-        Kind::Command => 1,
-        Kind::Response => 2,
-    }
-}
-
-fn kind_numbered(n: u16) -> NamedKind
+#[tactic(auto, unfolding(crate::specs::Frames::kind_numbered))]
+fn kind_numbered(n: u16) -> Option<Kind>
     ensures { result ≡ kind_numbered n }
 {
-    if n == 1 {
-        return NamedKind::Known(Kind::Command);
+    match n {
+        1 => Some(Kind::Command),
+        2 => Some(Kind::Response),
+        _ => None,
     }
-    if n == 2 {
-        return NamedKind::Known(Kind::Response);
-    }
-    NamedKind::Unknown
 }
 
 // Judges the bytes of a frame so far by length and kind: `Whole` where all its bytes are there.
+#[tactic(auto, unfolding(crate::specs::Frames::judged_by_head, crate::specs::Frames::by_kind))]
 pub fn judge_head(bytes: &[u8]) -> Step
     ensures { result ≡ judged_by_head bytes.now }
 {
@@ -128,19 +111,13 @@ pub fn judge_head(bytes: &[u8]) -> Step
         return Step::NotYet(FrameLength(n as u16));
     }
     let length = primitives::little_endian_at(bytes, 0) as usize;
-    if length < AROUND {
-        return Step::Stopped(Fault::BadLength);
-    }
-    if LONGEST < length {
-        return Step::Stopped(Fault::BadLength);
-    }
-    if length < n {
+    if length < AROUND || LONGEST < length || length < n {
         return Step::Stopped(Fault::BadLength);
     }
     if n < HEAD {
         return Step::NotYet(FrameLength(n as u16));
     }
-    let NamedKind::Known(kind) = kind_numbered(primitives::little_endian_at(bytes, 2)) else {
+    let Some(kind) = kind_numbered(primitives::little_endian_at(bytes, 2)) else {
         return Step::Stopped(Fault::UnknownKind);
     };
     if n < length {
@@ -150,6 +127,7 @@ pub fn judge_head(bytes: &[u8]) -> Step
 }
 
 // Whether the last two bytes are the remainder of all before them.
+#[tactic(auto, unfolding(crate::specs::Frames::check_right))]
 fn check_right(bytes: &[u8]) -> bool
     requires { 2 ≤ length bytes.now }
     ensures { result ≡ check_right bytes.now }
@@ -159,17 +137,14 @@ fn check_right(bytes: &[u8]) -> bool
 }
 
 // Judges the bytes of a frame so far: by the check too where all are there.
+#[tactic(auto, using(crate::proofs::Judgments::whole_long), unfolding(crate::specs::Frames::judged, crate::specs::Frames::checked))]
 pub fn judge(bytes: &[u8]) -> Step
     ensures { result ≡ judged bytes.now }
 {
-    let answer = judge_head(bytes);
-    let Step::Whole(kind, size) = answer else {
-        return answer;
-    };
-    if check_right(bytes) {
-        return Step::Whole(kind, size);
+    match judge_head(bytes) {
+        Step::Whole(_, _) if !check_right(bytes) => Step::Stopped(Fault::BadCheck),
+        answer => answer,
     }
-    Step::Stopped(Fault::BadCheck)
 }
 
 // Puts a number in two bytes, least significant first.
@@ -182,12 +157,13 @@ fn put_little_endian(room: &mut [u8], at: usize, n: u16)
 }
 
 // Writes a frame of n bytes up to its check.
+#[tactic(auto, using(primitives::proofs::Over::over_over), unfolding(crate::specs::Frames::unchecked))]
 fn write_unchecked(kind: Kind, body: &[u8], room: &mut [u8], n: u16)
     requires { (length body.now + 4 ≤ length room.old) × (n ≡ length body.now + around) }
     ensures { room.new ≡ over 0 (unchecked kind body.now) room.old }
 {
     put_little_endian(room, 0, n);
-    put_little_endian(room, 2, kind_number(kind));
+    put_little_endian(room, 2, kind.into());
     primitives::put(room, HEAD, body);
 }
 
@@ -202,25 +178,30 @@ fn write_check(room: &mut [u8], from: usize, end: usize)
 }
 
 // Writes a frame at the front of the room.
-pub fn write_frame(kind: Kind, body: &[u8], room: &mut [u8]) -> Written
+#[tactic(auto, unfolding(crate::specs::Frames::writing))]
+pub fn write_frame(kind: Kind, body: &[u8], room: &mut [u8]) -> Result<FrameLength, WriteRefusal>
     ensures { written result room.new ≡ writing kind body.now room.old }
 {
     let n = body.len();
     if LONGEST_BODY < n {
-        return Written::Refused(WriteRefusal::BodyTooLong);
+        return Err(WriteRefusal::BodyTooLong);
     }
     if room.len() < n + AROUND {
-        return Written::Refused(WriteRefusal::RoomTooSmall);
+        return Err(WriteRefusal::RoomTooSmall);
     }
     let size = (n + AROUND) as u16;
     write_unchecked(kind, body, room, size);
     write_check(room, 0, n + HEAD);
-    Written::Frame(FrameLength(size))
+    Ok(FrameLength(size))
 }
 
 // `write_frame` for a host in C: 0 where the frame is written, else the refusal's number.
+#[tactic(auto, unfolding(crate::specs::Frames::written_number))]
 pub fn write_for_host(kind: Kind, body: &[u8], room: &mut [u8]) -> u8
     ensures { HostWrites kind body.now room.old result room.new }
 {
-    written_number(write_frame(kind, body, room))
+    match write_frame(kind, body, room) {
+        Ok(_) => 0,
+        Err(refusal) => refusal.into(),
+    }
 }

@@ -5,8 +5,8 @@ use native.Mathlib.Omega.{arith}
 use lib.ListN.{length}
 use borrow.Author.Rules.{rules}
 use Rattle.dock.specs.Held.{feeding}
-use Rattle.dock.proofs.Feeding.{taken_within, kept_size, left_less, feed_on, feed_whole, feed_end}
-use Rattle.dock.proofs.feed_lent.Goals as goal
+use Rattle.dock.proofs.Feeding.{taken_within, left_less, feed_on, feed_whole, feed_end}
+use Rattle.dock.proofs.Stream.feed.Goals as goal
 
 pub loop-taken-init : goal.loop-taken-init
 unfolding feeding
@@ -21,7 +21,7 @@ pub loop-taken-smaller : goal.loop-taken-smaller
 loop-taken-smaller c = search left_less
 
 pub loop-taken-preserved : goal.loop-taken-preserved
-loop-taken-preserved c = (search taken_within, search kept_size, search feed_on)
+loop-taken-preserved c = (search taken_within, c.take_part-part.array_long, search feed_on)
 
 pub returns-in-loop-taken : goal.returns-in-loop-taken
 returns-in-loop-taken c = search feed_whole
