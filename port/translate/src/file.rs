@@ -4,7 +4,7 @@ use crate::body::Body;
 use crate::header::{Declared, Header};
 use crate::interface::{c_name, Interface};
 use crate::mir::{Function, Program, Ty};
-use crate::types::{declarator, identifier, parameter_list, Declarations, Types};
+use crate::types::{declarator, function_name, parameter_list, Declarations, Types};
 use crate::Answer;
 use std::collections::BTreeSet;
 use std::fmt::Write;
@@ -19,14 +19,20 @@ pub fn print(
     interface.check(header, program)?;
     let types = Types { program, interface };
     let functions = reached(program, &interface.functions)?;
-    let names: BTreeSet<String> = functions.iter().map(|one| identifier(&one.name)).collect();
-    if names.len() != functions.len() {
-        return Err("two functions have one name in C".to_string());
+    let mut names = BTreeSet::new();
+    for function in &functions {
+        let (name, instance) = (function_name(&function.instance), &function.instance);
+        if !names.insert(name.clone()) {
+            return Err(format!(
+                "{instance}: two functions have the name {name} in C"
+            ));
+        }
     }
-    let mut text = head(interface, kit) + &own_functions(types, &functions)?;
+    let own = own_functions(types, &functions)?;
+    let mut text = head(interface, kit, own.contains("memmove(")) + &own;
     for name in &interface.functions {
         let parameters = &header.functions[c_name(name)].parameters;
-        let entry = entry(types, program.function(name)?, parameters);
+        let entry = entry(types, program.entry(name)?, parameters);
         text += &entry.map_err(|why| format!("{name}: {why}"))?;
     }
     Ok(text)
@@ -37,12 +43,13 @@ fn own_functions(types: Types, functions: &[&Function]) -> Answer<String> {
     let mut declarations = Declarations::new(types);
     let (mut prototypes, mut bodies) = (String::new(), String::new());
     for function in functions {
-        let refused = |why| format!("{}: {why}", function.name);
+        let refused = |why| format!("{}: {why}", function.instance);
         let body = Body::of(types, function).map_err(refused)?;
-        for ty in &body.locals {
+        let lent = body.lent.iter().map(|(of, _)| of.elements().unwrap_or(of));
+        for ty in body.locals.iter().chain(lent) {
             declarations.declare(ty).map_err(refused)?;
         }
-        let signature = types.signature(function).map_err(refused)?;
+        let signature = body.signature().map_err(refused)?;
         writeln!(prototypes, "static {signature};").unwrap();
         bodies += &body.print().map_err(refused)?;
     }
@@ -50,28 +57,30 @@ fn own_functions(types: Types, functions: &[&Function]) -> Answer<String> {
 }
 
 /// The functions that these call, and theirs, in the order of the program.
-fn reached<'a>(program: &'a Program, first: &'a [String]) -> Answer<Vec<&'a Function>> {
+fn reached<'a>(program: &'a Program, first: &[String]) -> Answer<Vec<&'a Function>> {
     let mut reached = BTreeSet::new();
-    let mut waiting: Vec<&str> = first.iter().map(String::as_str).collect();
-    while let Some(name) = waiting.pop() {
-        if reached.insert(name) {
-            waiting.extend(program.function(name)?.calls());
+    let first = first.iter().map(|name| Ok(&program.entry(name)?.instance));
+    let mut waiting = first.collect::<Answer<Vec<_>>>()?;
+    while let Some(instance) = waiting.pop() {
+        if reached.insert(instance) {
+            waiting.extend(program.function(instance)?.calls());
         }
     }
     let functions = program.functions.iter();
     Ok(functions
-        .filter(|function| reached.contains(function.name.as_str()))
+        .filter(|function| reached.contains(&function.instance))
         .collect())
 }
 
 /// The first lines, and the types that all others rest on.
-fn head(interface: &Interface, kit: &str) -> String {
+fn head(interface: &Interface, kit: &str, moves: bool) -> String {
     let Interface {
         header,
         about,
         arrays,
         ..
     } = interface;
+    let strings = if moves { "#include <string.h>\n" } else { "" };
     let mut text = format!(
         "\
 /*
@@ -88,7 +97,7 @@ fn head(interface: &Interface, kit: &str) -> String {
 #include <stdbool.h>
 #include <stddef.h>
 #include <stdint.h>
-
+{strings}
 /* A size has 64 bits, as in the proofs, on every controller. */
 typedef uint64_t usize;
 
@@ -123,13 +132,19 @@ fn entry(types: Types, function: &Function, parameters: &[Declared]) -> Answer<S
     }
     let listed = parameters.iter().map(|one| declarator(&one.ty, &one.name));
     let listed = parameter_list(&listed.collect::<Vec<_>>());
-    let (own, name) = (c_name(&function.name), &function.name);
+    let name = &function.instance.name;
+    let own = c_name(name);
     let head = declarator(
         &types.name(&function.locals[0])?,
         &format!("{own}({listed})"),
     );
-    let (called, arguments) = (identifier(name), arguments.join(",\n        "));
-    let body = format!("{nothing}    return {called}({arguments});\n");
+    let called = function_name(&function.instance);
+    let arguments = arguments.join(",\n        ");
+    let returns = match types.is_nothing(&function.locals[0]) {
+        true => "",
+        false => "return ",
+    };
+    let body = format!("{nothing}    {returns}{called}({arguments});\n");
     Ok(format!("\n/* {name} for C */\n{head}\n{{\n{body}}}\n"))
 }
 

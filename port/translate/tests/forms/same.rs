@@ -4,7 +4,7 @@
 use crate::common::library;
 use std::fs;
 use std::path::{Path, PathBuf};
-use translate::read::Libraries;
+use translate::libraries::Libraries;
 use translate::same::difference::difference;
 use translate::same::{library as held, terms};
 
@@ -180,15 +180,14 @@ impl Drop for Terms {
 
 /// Where the two forms differ, or why they cannot be compared.
 fn compared(text: &str, terms: &Path) -> Result<Option<String>, String> {
-    let libraries = Libraries::new(&[library(&[text])])?;
+    let libraries = Libraries::new(&[library(&[text])], None)?;
     let name = match text.contains("\"lib::most\",{\"lifetimes") {
         true => "lib::most",
         false => "lib::least",
     };
-    let functions = libraries.reached(&[name.to_string()])?;
-    let (name, function) = functions[0];
+    let (_, function) = libraries.function(name)?;
     Ok(difference(
-        &held::code(function)?,
+        &held::code(&function)?,
         &terms::code(terms, name)?,
     ))
 }
