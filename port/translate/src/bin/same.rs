@@ -11,7 +11,7 @@ use std::process::ExitCode;
 use translate::json::Json;
 use translate::libraries::Libraries;
 use translate::same::difference::difference;
-use translate::same::{library, terms};
+use translate::same::{kit, library, terms};
 use translate::{instances, interface, Answer};
 
 fn main() -> ExitCode {
@@ -64,7 +64,12 @@ fn all(table: &String, terms: &Path, kit: &str, crates: &[String]) -> Answer<(us
             continue;
         }
         count += 1;
-        if let Err(why) = one(name, &function, terms) {
+        let is_own = |name: &str| {
+            libraries
+                .function(name)
+                .is_ok_and(|((is_own, ..), _)| is_own)
+        };
+        if let Err(why) = one(name, &function, terms, &is_own) {
             eprintln!("same: {name}: {why}");
             wrong += 1;
         }
@@ -78,8 +83,10 @@ fn all(table: &String, terms: &Path, kit: &str, crates: &[String]) -> Answer<(us
     }
 }
 
-fn one(name: &str, function: &Json, terms: &Path) -> Answer<()> {
+fn one(name: &str, function: &Json, terms: &Path, is_own: &impl Fn(&str) -> bool) -> Answer<()> {
     let held = library::code(function).map_err(|wrong| format!("in the library: {wrong}"))?;
     let term = terms::code(terms, name).map_err(|wrong| format!("in the term: {wrong}"))?;
+    let held = library::unspelled(kit::renamed(held, is_own));
+    let term = library::unspelled(term);
     difference(&held, &term).map_or(Ok(()), Err)
 }
