@@ -5,7 +5,7 @@ use crate::mir::{
 };
 use crate::types::{declarator, function_name, integer, local, Types};
 use crate::Answer;
-use std::collections::BTreeSet;
+use std::collections::{BTreeMap, BTreeSet};
 use std::fmt::Write;
 
 /// An expression of C, and its type in MIR.
@@ -57,7 +57,7 @@ pub struct Body<'a> {
     pub locals: Vec<Ty>,
     is_read: Vec<bool>,
     /// The constants that it lends, and their types.
-    pub lent: Vec<(&'a Ty, &'a Constant)>,
+    lent: Vec<(&'a Ty, &'a Constant)>,
     around: Vec<Around>,
     /// How many labels there are, and which a goto names.
     labels: usize,
@@ -140,6 +140,21 @@ impl<'a> Body<'a> {
         if self.is_read[local] && !is_there {
             self.lent.push((of, what));
         }
+    }
+
+    /// The types of the constants that it lends, and of what they point to: of arrays, those of the elements.
+    pub fn lent_types(&self) -> Vec<&'a Ty> {
+        let mut types: Vec<&Ty> = Vec::new();
+        for (of, what) in &self.lent {
+            types.push(of);
+            if let Constant::Block(_, parts) = what {
+                types.extend(parts.iter().map(|(ty, _)| ty));
+            }
+        }
+        types
+            .into_iter()
+            .map(|ty| ty.elements().unwrap_or(ty))
+            .collect()
     }
 
     // ---- raw pointers
@@ -260,8 +275,9 @@ impl<'a> Body<'a> {
             }
         }
         for (number, (of, what)) in self.lent.clone().into_iter().enumerate() {
-            let constant = lent_constant(self.types, &lent(number), of, what)?;
-            self.line(1, &constant);
+            for constant in lent_constants(self.types, &lent(number), of, what)? {
+                self.line(1, &constant);
+            }
         }
         self.statements(&self.function.body, 1)?;
         self.out += "}\n";
@@ -394,7 +410,18 @@ impl<'a> Body<'a> {
 
     /// The operand's text, where a value of type `into` is wanted.
     fn operand_as(&self, into: &Ty, operand: &Operand) -> Answer<String> {
-        self.fitted(into, self.operand(operand)?, "where", "is wanted")
+        let found = self.operand(operand)?;
+        match operand {
+            // A raw pointer to an array's first element is one to the array.
+            Operand::Copy(Place { local, steps })
+                if steps.is_empty()
+                    && self.is_raw(*local)
+                    && matches!((into.pointee(), found.ty.pointee()), (Ok(one), Ok(other)) if one.1 == other.1 && one.0 <= other.0) =>
+            {
+                Ok(found.text)
+            }
+            _ => self.fitted(into, found, "where", "is wanted"),
+        }
     }
 
     /// The text of a value that is stored as one of type `into`.
@@ -544,10 +571,14 @@ impl<'a> Body<'a> {
         if parts.len() as u64 != length {
             return Err(format!("{} elements of [{of}; {length}]", parts.len()));
         }
-        let texts: Vec<String> = parts
-            .iter()
-            .map(|part| self.operand_as(of, part))
-            .collect::<Answer<_>>()?;
+        let mut texts = Vec::new();
+        for part in parts {
+            let text = self.operand_as(of, part)?;
+            match of {
+                Ty::Array(..) => texts.extend((0..of.count()).map(|at| format!("{text}.at[{at}]"))),
+                _ => texts.push(text),
+            }
+        }
         match (texts.is_empty(), of) {
             (false, _) => Ok(format!("({name}){{ {{ {} }} }}", in_lines(&texts))),
             (true, Ty::Int(_)) => Ok(format!("({name}){{ {{ 0u }} }}")),
@@ -690,7 +721,7 @@ impl<'a> Body<'a> {
                 let at = |text: &str, behind| format!("{text}{}", if behind { "" } else { ".at" });
                 let (to, text) = (at(&to, to_behind), at(&text, from_behind));
                 format!(
-                    "memmove({to}, {text}, sizeof({}));",
+                    "copy_array({to}, {text}, sizeof({}));",
                     self.types.name(&into)?
                 )
             }
@@ -813,75 +844,134 @@ fn parameters(types: Types, function: &Function) -> Answer<Vec<Ty>> {
     }
 }
 
-/// The declaration of a constant that is lent.
-fn lent_constant(types: Types, name: &str, of: &Ty, what: &Constant) -> Answer<String> {
-    let (ty, name) = match of {
-        Ty::Array(element, length) => {
-            let length = (*length).max(1);
-            (types.name(element)?, format!("{name}[{length}]"))
-        }
-        other => (types.name(other)?, name.to_string()),
+/// The declarations of a constant that is lent: it is the last, and what it points to stands before it.
+fn lent_constants(types: Types, name: &str, of: &Ty, what: &Constant) -> Answer<Vec<String>> {
+    let Constant::Block(first, parts) = what else {
+        return Ok(vec![Lent::alone(types).declaration(name, of, what)?]);
     };
-    let declared = declarator(&format!("static const {ty}"), &name);
-    match of {
-        Ty::Array(_, 0) => Ok(format!("{declared};")),
-        Ty::Array(element, length) => {
-            let texts = elements_of(types, element, *length, what)?;
-            Ok(format!("{declared} = {{ {} }};", in_lines(&texts)))
+    let all: Vec<Ty> = std::iter::once(of)
+        .chain(parts.iter().map(|(ty, _)| ty))
+        .cloned()
+        .collect();
+    let places = types.program.places(&all)?.into_iter().skip(1);
+    let names = (1..).map(|number| format!("{name}_part{number}"));
+    let mut lent = Lent::alone(types);
+    let mut declarations = Vec::new();
+    let placed: Vec<_> = parts.iter().zip(places).zip(names).collect();
+    for (((ty, part), place), name) in placed.into_iter().rev() {
+        declarations.push(lent.declaration(&name, ty, part)?);
+        lent.parts.insert(place, (name, ty.clone()));
+    }
+    declarations.push(lent.declaration(name, of, first)?);
+    Ok(declarations)
+}
+
+/// What a constant may point to: by the place in its block, the name and the type.
+struct Lent<'a> {
+    types: Types<'a>,
+    parts: BTreeMap<u64, (String, Ty)>,
+}
+
+impl<'a> Lent<'a> {
+    fn alone(types: Types<'a>) -> Lent<'a> {
+        let parts = BTreeMap::new();
+        Lent { types, parts }
+    }
+
+    fn declaration(&self, name: &str, of: &Ty, what: &Constant) -> Answer<String> {
+        let Some(element) = of.elements() else {
+            let declared = declared_constant(&self.types.name(of)?, name);
+            return Ok(format!("{declared} = {};", self.initializer(of, what)?));
+        };
+        let length = of.count().max(1);
+        let declared = declared_constant(&self.types.name(element)?, &format!("{name}[{length}]"));
+        match of.count() {
+            0 => Ok(format!("{declared};")),
+            _ => {
+                let texts = self.elements(of, what)?;
+                Ok(format!("{declared} = {{ {} }};", in_lines(&texts)))
+            }
         }
-        other => Ok(format!("{declared} = {};", constant(types, other, what)?)),
+    }
+
+    /// The elements of an array; of an array of arrays, those of each.
+    fn elements(&self, array: &Ty, what: &Constant) -> Answer<Vec<String>> {
+        let Ty::Array(of, length) = array else {
+            return Ok(vec![self.initializer(array, what)?]);
+        };
+        let parts: Vec<Constant> = match what {
+            Constant::Ints(bits, numbers) => {
+                let numbers = numbers.iter();
+                numbers.map(|one| Constant::Int(*bits, *one)).collect()
+            }
+            Constant::Repeat(of, times) => vec![(**of).clone(); *times as usize],
+            Constant::Parts(parts) => parts.clone(),
+            other => return Err(format!("{other:?} lent as an array")),
+        };
+        if parts.len() as u64 != *length {
+            return Err(format!("{} elements lent as {array}", parts.len()));
+        }
+        let elements = parts.iter().map(|part| self.elements(of, part));
+        Ok(elements.collect::<Answer<Vec<_>>>()?.concat())
+    }
+
+    fn initializer(&self, of: &Ty, what: &Constant) -> Answer<String> {
+        match (of, what) {
+            (Ty::Int(bits), Constant::Int(width, number)) if bits == width => {
+                Ok(format!("{number}u"))
+            }
+            (Ty::Bool, Constant::Bool(value)) => Ok(value.to_string()),
+            (Ty::Unit, Constant::Unit) => Ok(String::new()),
+            (Ty::Array(..), _) if of.count() > 0 => {
+                let texts = self.elements(of, what)?;
+                Ok(format!("{{ {{ {} }} }}", in_lines(&texts)))
+            }
+            (Ty::Ref { mutable: false, .. }, Constant::Here(place)) => self.pointer(of, *place),
+            (Ty::Named(_) | Ty::Slice { .. }, Constant::Parts(parts)) => self.fields(of, parts),
+            _ => Err(format!("{what:?} lent as {of}")),
+        }
+    }
+
+    fn pointer(&self, of: &Ty, place: u64) -> Answer<String> {
+        match self.parts.get(&place) {
+            Some((name, ty)) if of.takes(&Ty::reference(false, ty.clone())) => {
+                let sign = if ty.elements().is_some() { "" } else { "&" };
+                Ok(format!("{sign}{name}"))
+            }
+            _ => Err(format!(
+                "a constant that points to {of}, {place} bytes into its block"
+            )),
+        }
+    }
+
+    fn fields(&self, of: &Ty, parts: &[Constant]) -> Answer<String> {
+        let shape = match of {
+            Ty::Named(named) => Some(self.types.program.shape(named)?),
+            _ => None,
+        };
+        let variant = match (shape, parts.first()) {
+            (Some(Shape::Variants(_)), Some(Constant::Int(8, tag))) => Some(*tag as usize),
+            _ => None,
+        };
+        let fields = self.types.fields(of, variant)?;
+        if fields.len() != parts.len() {
+            return Err(format!("{} parts lent as {of}", parts.len()));
+        }
+        let mut texts = Vec::new();
+        for (field, part) in fields.iter().zip(parts) {
+            let text = self.initializer(&field.ty, part)?;
+            if !self.types.is_nothing(&field.ty) {
+                texts.push(format!(".{} = {text}", field.name));
+            }
+        }
+        Ok(format!("{{ {} }}", texts.join(", ")))
     }
 }
 
-fn elements_of(types: Types, of: &Ty, length: u64, what: &Constant) -> Answer<Vec<String>> {
-    let parts: Vec<Constant> = match what {
-        Constant::Ints(bits, numbers) => {
-            let numbers = numbers.iter();
-            numbers.map(|one| Constant::Int(*bits, *one)).collect()
-        }
-        Constant::Repeat(of, times) => vec![(**of).clone(); *times as usize],
-        Constant::Parts(parts) => parts.clone(),
-        other => return Err(format!("{other:?} lent as an array")),
-    };
-    match parts.len() as u64 == length {
-        true => parts.iter().map(|part| constant(types, of, part)).collect(),
-        false => Err(format!("{} elements lent as [{of}; {length}]", parts.len())),
-    }
-}
-
-/// An initializer of C.
-fn constant(types: Types, of: &Ty, what: &Constant) -> Answer<String> {
-    let shape = match of {
-        Ty::Named(named) => Some(types.program.shape(named)?),
-        _ => None,
-    };
-    match (of, what) {
-        (Ty::Int(bits), Constant::Int(width, number)) if bits == width => Ok(format!("{number}u")),
-        (Ty::Bool, Constant::Bool(value)) => Ok(value.to_string()),
-        (Ty::Unit, Constant::Unit) => Ok(String::new()),
-        (Ty::Array(element, length), _) if *length > 0 => {
-            let texts = elements_of(types, element, *length, what)?;
-            Ok(format!("{{ {{ {} }} }}", in_lines(&texts)))
-        }
-        (Ty::Named(_), Constant::Parts(parts)) => {
-            let variant = match (shape, parts.first()) {
-                (Some(Shape::Variants(_)), Some(Constant::Int(8, tag))) => Some(*tag as usize),
-                _ => None,
-            };
-            let fields = types.fields(of, variant)?;
-            if fields.len() != parts.len() {
-                return Err(format!("{what:?} lent as {of}"));
-            }
-            let mut texts = Vec::new();
-            for (field, part) in fields.iter().zip(parts) {
-                let text = constant(types, &field.ty, part)?;
-                if !types.is_nothing(&field.ty) {
-                    texts.push(format!(".{} = {text}", field.name));
-                }
-            }
-            Ok(format!("{{ {} }}", texts.join(", ")))
-        }
-        _ => Err(format!("{what:?} lent as {of}")),
+fn declared_constant(ty: &str, name: &str) -> String {
+    match ty.ends_with('*') {
+        true => format!("static {ty}const {name}"),
+        false => format!("static const {ty} {name}"),
     }
 }
 

@@ -29,7 +29,7 @@ pub fn print(
         }
     }
     let own = own_functions(types, &functions)?;
-    let mut text = head(interface, kit, own.contains("memmove(")) + &own;
+    let mut text = head(interface, kit) + &own;
     for name in &interface.functions {
         let parameters = &header.functions[c_name(name)].parameters;
         let entry = entry(types, program.entry(name)?, parameters);
@@ -38,6 +38,21 @@ pub fn print(
     Ok(text)
 }
 
+/// C copies no array by itself.
+const COPY_ARRAY: &str = "\
+/* Copies an array that lies behind a reference. */
+static void copy_array(void *to, const void *from, size_t size)
+{
+    unsigned char *target = to;
+    const unsigned char *source = from;
+    size_t at;
+    for (at = 0; at < size; at++) {
+        target[at] = source[at];
+    }
+}
+
+";
+
 /// The functions of MIR, behind the types and prototypes that they need.
 fn own_functions(types: Types, functions: &[&Function]) -> Answer<String> {
     let mut declarations = Declarations::new(types);
@@ -45,7 +60,7 @@ fn own_functions(types: Types, functions: &[&Function]) -> Answer<String> {
     for function in functions {
         let refused = |why| format!("{}: {why}", function.instance);
         let body = Body::of(types, function).map_err(refused)?;
-        let lent = body.lent.iter().map(|(of, _)| of.elements().unwrap_or(of));
+        let lent = body.lent_types().into_iter();
         for ty in body.locals.iter().chain(lent) {
             declarations.declare(ty).map_err(refused)?;
         }
@@ -53,7 +68,8 @@ fn own_functions(types: Types, functions: &[&Function]) -> Answer<String> {
         writeln!(prototypes, "static {signature};").unwrap();
         bodies += &body.print().map_err(refused)?;
     }
-    Ok(declarations.text + &prototypes + &bodies)
+    let copies = bodies.contains("copy_array(").then_some(COPY_ARRAY);
+    Ok(declarations.text + copies.unwrap_or_default() + &prototypes + &bodies)
 }
 
 /// The functions that these call, and theirs, in the order of the program.
@@ -73,14 +89,13 @@ fn reached<'a>(program: &'a Program, first: &[String]) -> Answer<Vec<&'a Functio
 }
 
 /// The first lines, and the types that all others rest on.
-fn head(interface: &Interface, kit: &str, moves: bool) -> String {
+fn head(interface: &Interface, kit: &str) -> String {
     let Interface {
         header,
         about,
         arrays,
         ..
     } = interface;
-    let strings = if moves { "#include <string.h>\n" } else { "" };
     let mut text = format!(
         "\
 /*
@@ -97,7 +112,7 @@ fn head(interface: &Interface, kit: &str, moves: bool) -> String {
 #include <stdbool.h>
 #include <stddef.h>
 #include <stdint.h>
-{strings}
+
 /* A size has 64 bits, as in the proofs, on every controller. */
 typedef uint64_t usize;
 

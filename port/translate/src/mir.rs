@@ -118,6 +118,10 @@ pub enum Constant {
     Repeat(Box<Constant>, u64),
     /// A struct of its fields, an array of its elements, or an enum of its tag and fields.
     Parts(Vec<Constant>),
+    /// A pointer to what lies so many bytes into the block of the constant.
+    Here(u64),
+    /// A constant, and what its pointers point to, which lies behind it in its block.
+    Block(Box<Constant>, Vec<(Ty, Constant)>),
 }
 
 #[derive(Debug)]
@@ -310,11 +314,19 @@ impl Ty {
         }
     }
 
-    /// The type of an array's elements.
+    /// The type of an array's elements; of an array of arrays, that of the innermost ones, which lie in one row.
     pub fn elements(&self) -> Option<&Ty> {
         match self {
-            Ty::Array(of, _) => Some(of),
+            Ty::Array(of, _) => Some(of.elements().unwrap_or(of)),
             _ => None,
+        }
+    }
+
+    /// How many of those elements there are.
+    pub fn count(&self) -> u64 {
+        match self {
+            Ty::Array(of, length) => of.count() * length,
+            _ => 1,
         }
     }
 
@@ -394,6 +406,15 @@ impl Program {
             },
         };
         Ok((end.next_multiple_of(align), align))
+    }
+
+    /// Where each of some values lies that lie one behind the other, in bytes.
+    pub fn places(&self, types: &[Ty]) -> Answer<Vec<u64>> {
+        let places = (0..types.len()).map(|number| {
+            let (end, _) = self.behind(0, &types[..number])?;
+            Ok(end.next_multiple_of(self.layout(&types[number])?.1))
+        });
+        places.collect()
     }
 
     /// Where fields end that lie one behind the other from `start` on, and the largest alignment among them.

@@ -376,8 +376,8 @@ impl Forms<'_> {
             }
             ("Assign", [to, from]) => Statement::Assign(self.place(to)?, self.value(from)?),
             ("LendStatic", [to, of, what]) => {
-                let lent = Value::Lent(self.ty(of)?.held(), constant(what)?);
-                Statement::Assign(self.place(to)?, lent)
+                let (of, what) = self.lent(of, what)?;
+                Statement::Assign(self.place(to)?, Value::Lent(of, what))
             }
             ("If", [condition]) => {
                 let condition = self.operand(condition)?;
@@ -400,6 +400,23 @@ impl Forms<'_> {
             _ => return unknown("statement", found),
         });
         Ok(())
+    }
+
+    /// A constant that is lent, and its type. Where its pointers point into its block, the type is a struct of what lies there.
+    fn lent(&self, of: &Json, what: &Json) -> Answer<(Ty, Constant)> {
+        match (of.form(), constant(what)?) {
+            (("Struct", [name, fields]), Constant::Parts(parts)) if name.text()? == "" => {
+                let types = self.types(fields)?.into_iter().map(Ty::held);
+                let mut all = types.zip(parts.iter().cloned());
+                match (all.next(), fields.list()?.len() == parts.len()) {
+                    (Some((ty, first)), true) => {
+                        Ok((ty, Constant::Block(Box::new(first), all.collect())))
+                    }
+                    _ => unknown("lent constant", what),
+                }
+            }
+            (_, what) => Ok((self.ty(of)?.held(), what)),
+        }
     }
 
     /// A function, or a method of an impl: at the impl's types and dictionaries, and then its own.
@@ -575,6 +592,7 @@ fn constant(found: &Json) -> Answer<Constant> {
             let parts = parts.iter().map(constant);
             Ok(Constant::Parts(parts.collect::<Answer<_>>()?))
         }
+        ("Here", [place]) => Ok(Constant::Here(place.number()?)),
         _ => unknown("lent constant", found),
     }
 }

@@ -266,10 +266,11 @@ impl<'a> Declarations<'a> {
                     declarator(&at, "at")
                 ))
             }
-            Ty::Array(of, length) => {
+            Ty::Array(of, _) => {
+                let of = of.elements().unwrap_or(of);
                 self.declare(of)?;
                 // An array of C has an element.
-                let length = (*length).max(1);
+                let length = ty.count().max(1);
                 let at = declarator(&self.types.name(of)?, &format!("at[{length}]"));
                 Ok(format!("    {at};\n"))
             }

@@ -235,7 +235,7 @@ fn raw_pointers_by_their_use() {
     assert_prints(&[&helper, &main], &wanted);
 }
 
-/// An array behind a reference is moved as a whole.
+/// An array behind a reference is copied as a whole.
 #[test]
 fn arrays_behind_references() {
     let three = r#"{"Array":[{"Int":8},{"Lit":3}]}"#;
@@ -248,9 +248,9 @@ fn arrays_behind_references() {
         ],
     );
     let wanted = [
-        "#include <string.h>\n",
-        "    memmove(v6.at, v7, sizeof(array_u8_3));\n",
-        "    memmove(v7, v6.at, sizeof(array_u8_3));\n",
+        "static void copy_array(void *to, const void *from, size_t size)\n",
+        "    copy_array(v6.at, v7, sizeof(array_u8_3));\n",
+        "    copy_array(v7, v6.at, sizeof(array_u8_3));\n",
     ];
     assert_prints(&[&main], &wanted);
 }
@@ -272,4 +272,67 @@ fn constants_of_parts() {
         "    const host_pair *v6;\n    static const host_pair lent1[2] = { { .low = 1u, .high = 9u }, { .low = 2u, .high = 9u } };\n    v6 = lent1;\n    result = v6->low;\n",
     ];
     assert_prints(&[&main], &wanted);
+}
+
+/// An array of arrays lies in one row.
+#[test]
+fn arrays_of_arrays() {
+    let two = r#"{"Array":[{"Int":8},{"Lit":2}]}"#;
+    let three = format!(r#"{{"Array":[{two},{{"Lit":3}}]}}"#);
+    let row = copy(7, &[]);
+    let byte = copy(5, &[r#"{"Deref":{"Int":8}}"#]);
+    let main = entry(
+        &[&three, two],
+        &[
+            &set(6, &aggregate(&[&row, &row, &row])),
+            &set(5, &address(6)),
+            &set(0, &opd(&byte)),
+        ],
+    );
+    let wanted = [
+        "typedef struct array_array_u8_2_3 {\n    uint8_t at[6];\n} array_array_u8_2_3;\n",
+        "    uint8_t *v5;\n",
+        "(array_array_u8_2_3){ { v7.at[0], v7.at[1], v7.at[0], v7.at[1], v7.at[0], v7.at[1] } };\n    v5 = v6.at;\n",
+    ];
+    assert_prints(&[&main], &wanted);
+}
+
+/// A constant of references: what they point to stands before it.
+#[test]
+fn constants_that_point() {
+    let block = format!(
+        r#"{{"Struct":["",[{},{}]]}}"#,
+        crate::common::SLICE,
+        r#"{"Array":[{"Int":8},{"Lit":3}]}"#
+    );
+    let lend = |place: u64| {
+        let to = crate::common::place(6, &[]);
+        format!(
+            r#"{{"LendStatic":[{to},{block},{{"Parts":[{{"Parts":[{{"Here":{place}}},{}]}},{{"Ints":{{"width":8,"values":[7,8,9]}}}}]}}]}}"#,
+            int(64, 3)
+        )
+    };
+    let byte = copy(
+        6,
+        &[
+            &format!(r#"{{"Deref":{}}}"#, crate::common::SLICE),
+            r#"{"Field":0}"#,
+            r#"{"Deref":{"Int":8}}"#,
+        ],
+    );
+    let lent_at = |place: u64| {
+        entry(
+            &[&reference("Imm", crate::common::SLICE)],
+            &[&lend(place), &set(0, &opd(&byte))],
+        )
+    };
+    let wanted = [
+        "    static const uint8_t lent1_part1[3] = { 7u, 8u, 9u };\n    static const slice_u8 lent1 = { .at = lent1_part1, .length = 3u };\n    v6 = &lent1;\n    result = *v6->at;\n",
+    ];
+    assert_prints(&[&lent_at(16)], &wanted);
+    let why = translated(&library(&[&lent_at(17)]), TABLE, HEADER);
+    assert_eq!(
+        why.expect_err("it is refused"),
+        "lib::entry: a constant that points to &u8, 17 bytes into its block"
+    );
 }

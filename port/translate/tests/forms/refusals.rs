@@ -257,7 +257,7 @@ fn constants_of_other_forms_that_are_lent() {
     let here = lent.replace(ints, r#"{"Here":0}"#);
     assert_eq!(
         refusal(&[&to(8)], &[&here, &read]),
-        r#"lib::entry: {"Here":0} is not a known lent constant of MIR"#
+        "lib::entry: Here(0) lent as an array"
     );
     let bool = lent.replace(ints, r#"{"Bool":true}"#);
     assert_eq!(
