@@ -305,8 +305,7 @@ impl<'a> Body<'a> {
                 (Step::Deref(to), None) if ty == Ty::Ptr || ty.leads_to(to) => {
                     text = if behind { format!("(*{text})") } else { text };
                     if ty == Ty::Ptr {
-                        let pointer = self.types.name(&Ty::reference(true, to.clone()))?;
-                        text = format!("(({pointer}){text})");
+                        text = self.raw_pointer(&text, to)?;
                     }
                     is_size = matches!(&ty, Ty::Ref { to, .. } if **to == Ty::Size);
                     (behind, ty) = (true, to.clone());
@@ -335,6 +334,12 @@ impl<'a> Body<'a> {
                 is_behind,
             }),
         }
+    }
+
+    /// What a struct or a parameter has as a `void *`, as a pointer to that type.
+    fn raw_pointer(&self, text: &str, to: &Ty) -> Answer<String> {
+        let pointer = self.types.name(&Ty::reference(true, to.clone()))?;
+        Ok(format!("(({pointer}){text})"))
     }
 
     fn read_place(&self, place: &Place) -> Answer<Term> {
