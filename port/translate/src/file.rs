@@ -4,7 +4,7 @@ use crate::body::Body;
 use crate::header::{Declared, Header};
 use crate::interface::{c_name, Interface};
 use crate::mir::{Function, Program, Ty};
-use crate::types::{declarator, identifier, parameter_list, Declarations, Types};
+use crate::types::{declarator, function_name, parameter_list, Declarations, Types};
 use crate::Answer;
 use std::collections::BTreeSet;
 use std::fmt::Write;
@@ -19,48 +19,72 @@ pub fn print(
     interface.check(header, program)?;
     let types = Types { program, interface };
     let functions = reached(program, &interface.functions)?;
-    let names: BTreeSet<String> = functions.iter().map(|one| identifier(&one.name)).collect();
-    if names.len() != functions.len() {
-        return Err("two functions have one name in C".to_string());
+    let mut names = BTreeSet::new();
+    for function in &functions {
+        let (name, instance) = (function_name(&function.instance), &function.instance);
+        if !names.insert(name.clone()) {
+            return Err(format!(
+                "{instance}: two functions have the name {name} in C"
+            ));
+        }
     }
-    let mut text = head(interface, kit) + &own_functions(types, &functions)?;
+    let own = own_functions(types, &functions)?;
+    let mut text = head(interface, kit) + &own;
     for name in &interface.functions {
         let parameters = &header.functions[c_name(name)].parameters;
-        let entry = entry(types, program.function(name)?, parameters);
+        let entry = entry(types, program.entry(name)?, parameters);
         text += &entry.map_err(|why| format!("{name}: {why}"))?;
     }
     Ok(text)
 }
+
+/// C copies no array by itself.
+const COPY_ARRAY: &str = "\
+/* Copies an array that lies behind a reference. */
+static void copy_array(void *to, const void *from, size_t size)
+{
+    unsigned char *target = to;
+    const unsigned char *source = from;
+    size_t at;
+    for (at = 0; at < size; at++) {
+        target[at] = source[at];
+    }
+}
+
+";
 
 /// The functions of MIR, behind the types and prototypes that they need.
 fn own_functions(types: Types, functions: &[&Function]) -> Answer<String> {
     let mut declarations = Declarations::new(types);
     let (mut prototypes, mut bodies) = (String::new(), String::new());
     for function in functions {
-        let refused = |why| format!("{}: {why}", function.name);
+        let refused = |why| format!("{}: {why}", function.instance);
         let body = Body::of(types, function).map_err(refused)?;
-        for ty in &body.locals {
+        let lent = body.lent_types().into_iter();
+        for ty in body.locals.iter().chain(lent) {
             declarations.declare(ty).map_err(refused)?;
         }
-        let signature = types.signature(function).map_err(refused)?;
+        let signature = body.signature().map_err(refused)?;
         writeln!(prototypes, "static {signature};").unwrap();
         bodies += &body.print().map_err(refused)?;
     }
-    Ok(declarations.text + &prototypes + &bodies)
+    let copies = bodies.contains("copy_array(").then_some(COPY_ARRAY);
+    Ok(declarations.text + copies.unwrap_or_default() + &prototypes + &bodies)
 }
 
 /// The functions that these call, and theirs, in the order of the program.
-fn reached<'a>(program: &'a Program, first: &'a [String]) -> Answer<Vec<&'a Function>> {
+fn reached<'a>(program: &'a Program, first: &[String]) -> Answer<Vec<&'a Function>> {
     let mut reached = BTreeSet::new();
-    let mut waiting: Vec<&str> = first.iter().map(String::as_str).collect();
-    while let Some(name) = waiting.pop() {
-        if reached.insert(name) {
-            waiting.extend(program.function(name)?.calls());
+    let first = first.iter().map(|name| Ok(&program.entry(name)?.instance));
+    let mut waiting = first.collect::<Answer<Vec<_>>>()?;
+    while let Some(instance) = waiting.pop() {
+        if reached.insert(instance) {
+            waiting.extend(program.function(instance)?.calls());
         }
     }
     let functions = program.functions.iter();
     Ok(functions
-        .filter(|function| reached.contains(function.name.as_str()))
+        .filter(|function| reached.contains(&function.instance))
         .collect())
 }
 
@@ -123,13 +147,19 @@ fn entry(types: Types, function: &Function, parameters: &[Declared]) -> Answer<S
     }
     let listed = parameters.iter().map(|one| declarator(&one.ty, &one.name));
     let listed = parameter_list(&listed.collect::<Vec<_>>());
-    let (own, name) = (c_name(&function.name), &function.name);
+    let name = &function.instance.name;
+    let own = c_name(name);
     let head = declarator(
         &types.name(&function.locals[0])?,
         &format!("{own}({listed})"),
     );
-    let (called, arguments) = (identifier(name), arguments.join(",\n        "));
-    let body = format!("{nothing}    return {called}({arguments});\n");
+    let called = function_name(&function.instance);
+    let arguments = arguments.join(",\n        ");
+    let returns = match types.is_nothing(&function.locals[0]) {
+        true => "",
+        false => "return ",
+    };
+    let body = format!("{nothing}    {returns}{called}({arguments});\n");
     Ok(format!("\n/* {name} for C */\n{head}\n{{\n{body}}}\n"))
 }
 

@@ -1,7 +1,7 @@
 //! What C sees of the library: the table port/interface, and the check that a header says the same.
 
 use crate::header::{Declared, Header};
-use crate::mir::{Function, Program, Shape, Ty};
+use crate::mir::{Function, Named, Program, Shape, Ty};
 use crate::Answer;
 
 /// A struct of the header, the Rattle struct that it is, and the names of its fields.
@@ -83,8 +83,9 @@ impl Interface {
         Ok(())
     }
 
-    pub fn host_struct(&self, rattle: &str) -> Option<&HostStruct> {
-        self.structs.iter().find(|host| host.rattle == rattle)
+    pub fn host_struct(&self, named: &Named) -> Option<&HostStruct> {
+        let is = |host: &&HostStruct| named.types.is_empty() && host.rattle == named.name;
+        self.structs.iter().find(is)
     }
 
     /// Whether the header declares these structs, arrays and functions, and no other function.
@@ -101,7 +102,7 @@ impl Interface {
             }
         }
         for name in &self.functions {
-            self.check_function(program.function(name)?, header)?;
+            self.check_function(program.entry(name)?, header)?;
         }
         let known = |name: &str| {
             self.functions
@@ -118,7 +119,7 @@ impl Interface {
     }
 
     fn check_struct(&self, host: &HostStruct, header: &Header, program: &Program) -> Answer<()> {
-        let Shape::Fields(types) = program.shape(&host.rattle)? else {
+        let Shape::Fields(types) = program.shape(&Named::plain(&host.rattle))? else {
             return Err(format!("{} is no struct", host.rattle));
         };
         if types.len() != host.fields.len() {
@@ -152,7 +153,7 @@ impl Interface {
     }
 
     fn check_function(&self, function: &Function, header: &Header) -> Answer<()> {
-        let name = c_name(&function.name);
+        let name = c_name(&function.instance.name);
         let Some(found) = header.functions.get(name) else {
             return Err(format!("{} declares no function {name}", self.header));
         };
@@ -192,7 +193,7 @@ impl Interface {
     /// A type as the header writes it.
     fn host_type(&self, ty: &Ty) -> Answer<String> {
         let found = match ty {
-            Ty::Int(64) => Some("size_t".to_string()),
+            Ty::Int(64) | Ty::Size => Some("size_t".to_string()),
             Ty::Int(bits) => Some(format!("uint{bits}_t")),
             Ty::Bool => Some("bool".to_string()),
             Ty::Unit => Some("void".to_string()),
@@ -202,11 +203,13 @@ impl Interface {
                 .iter()
                 .find(|array| array.ty == *ty)
                 .map(|array| array.c.clone()),
+            // C has a size_t there, which the library would write with 64 bits.
+            Ty::Ref { mutable: true, to } if **to == Ty::Int(64) => None,
             Ty::Ref { mutable, to } => {
                 let constant = if *mutable { "" } else { "const " };
                 Some(format!("{constant}{} *", self.host_type(to)?))
             }
-            Ty::Ptr | Ty::Slice { .. } => None,
+            Ty::Ptr | Ty::Slice { .. } | Ty::Number(_) => None,
         };
         found.ok_or_else(|| format!("{} has no type for {ty}", self.header))
     }

@@ -148,6 +148,15 @@ impl Json {
 
     /// The values of an object that has these keys and no other.
     pub fn fields<const N: usize>(&self, keys: [&str; N]) -> Answer<[&Json; N]> {
+        self.fields_and(keys, &[])
+    }
+
+    /// The same of an object that may have some others too.
+    pub fn fields_and<const N: usize>(
+        &self,
+        keys: [&str; N],
+        others: &[&str],
+    ) -> Answer<[&Json; N]> {
         let unlike = || {
             format!(
                 "expected the keys {}, not {}",
@@ -163,7 +172,8 @@ impl Json {
             let found = parts.iter().find(|(name, _)| name == key);
             *value = &found.ok_or_else(unlike)?.1;
         }
-        match parts.len() == N {
+        let is_known = |name: &str| keys.contains(&name) || others.contains(&name);
+        match parts.iter().all(|(name, _)| is_known(name)) {
             true => Ok(values),
             false => Err(unlike()),
         }

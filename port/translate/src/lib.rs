@@ -4,8 +4,10 @@
 mod body;
 pub mod file;
 pub mod header;
+pub mod instances;
 pub mod interface;
 pub mod json;
+pub mod libraries;
 pub mod mir;
 pub mod read;
 pub mod same;

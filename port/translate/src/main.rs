@@ -1,37 +1,38 @@
 //! Translates the MIR of the library to the C files of an interface.
 //!
-//! usage: translate INTERFACE HEADERS OUT KIT MIR..
+//! usage: translate INTERFACE HEADERS OUT KIT LIBRARIES MIR..
 //!
-//! The table, the folder of the headers, the folder to write to, the kit's version, and the mir.json of each crate.
+//! The table, the folder of the headers, the folder to write to, the kit's version, the folder of its libraries, and the mir.json of each crate.
 //!
 //! Whatever is not known, or does not fit, is refused: no C file is written then.
 
 use std::fs;
-use std::path::Path;
+use std::path::{Path, PathBuf};
 use std::process::ExitCode;
 use translate::interface::{self, Interface};
 use translate::mir::Program;
-use translate::{file, header, read, Answer};
+use translate::{file, header, instances, libraries, Answer};
 
 fn text_of(path: &Path) -> Answer<String> {
     fs::read_to_string(path).map_err(|why| format!("{}: {why}", path.display()))
 }
 
 /// The MIR of what the interfaces name and what that calls.
-fn program(crates: &[String], interfaces: &[Interface]) -> Answer<Program> {
+fn program(kit: &str, crates: &[String], interfaces: &[Interface]) -> Answer<Program> {
     let texts = crates.iter().map(|file| text_of(Path::new(file)));
-    let libraries = read::Libraries::new(&texts.collect::<Answer<Vec<_>>>()?)?;
+    let texts = texts.collect::<Answer<Vec<_>>>()?;
+    let libraries = libraries::Libraries::new(&texts, Some(PathBuf::from(kit)))?;
     let first = interfaces.iter().flat_map(|one| one.functions.clone());
-    read::program(&libraries, &first.collect::<Vec<_>>())
+    instances::program(&libraries, &first.collect::<Vec<_>>())
 }
 
 fn run() -> Answer<()> {
     let words: Vec<String> = std::env::args().skip(1).collect();
-    let [table, headers, out, kit, crates @ ..] = words.as_slice() else {
-        return Err("usage: translate INTERFACE HEADERS OUT KIT MIR..".to_string());
+    let [table, headers, out, kit, folder, crates @ ..] = words.as_slice() else {
+        return Err("usage: translate INTERFACE HEADERS OUT KIT LIBRARIES MIR..".to_string());
     };
     let interfaces = interface::read(&text_of(Path::new(table))?)?;
-    let program = program(crates, &interfaces)?;
+    let program = program(folder, crates, &interfaces)?;
     let mut files = Vec::new();
     for interface in interfaces {
         let named = |why| format!("{}: {why}", interface.header);

@@ -1,93 +1,28 @@
-//! The reader of the MIR that the built libraries hold (toolchain/mir.json). A form that the model does not have is refused with its
-//! function's name, never guessed at.
+//! The reader of MIR: each form of mir.json as the model has it, at the types and dictionaries that its function is given. A form that the
+//! model does not have is refused, never guessed at.
 
-use crate::json::{self, Json};
-use crate::mir::{Arm, Function, Operand, Place, Program, Shape, Statement, Step, Ty, Value};
+use crate::json::Json;
+use crate::mir::{
+    Arm, Constant, Dictionary, Instance, Named, Operand, Place, Shape, Statement, Step, Ty, Value,
+};
 use crate::Answer;
+use std::cell::RefCell;
 use std::collections::{BTreeMap, BTreeSet};
+use std::rc::Rc;
 
-/// The MIR of libraries, each function by its name, in the order of the files.
-pub struct Libraries(Vec<(String, Json)>);
-
-impl Libraries {
-    /// Each text is a library's mir.json: a list of names with their functions.
-    pub fn new(texts: &[String]) -> Answer<Libraries> {
-        let mut all: Vec<(String, Json)> = Vec::new();
-        let mut names = BTreeSet::new();
-        for text in texts {
-            let Json::List(functions) = json::parse(text)? else {
-                return Err("a library's MIR is a list of functions".to_string());
-            };
-            for function in functions {
-                let (name, item) = named(function)?;
-                if !names.insert(name.clone()) {
-                    return Err(format!("two functions are named {name}"));
-                }
-                all.push((name, item));
-            }
-        }
-        Ok(Libraries(all))
-    }
-
-    /// The functions that these reach, these included, in the order of the files.
-    pub fn reached(&self, first: &[String]) -> Answer<Vec<(&str, &Json)>> {
-        let mut reached = BTreeSet::new();
-        let mut waiting = first.to_vec();
-        while let Some(name) = waiting.pop() {
-            if !reached.contains(&name) {
-                waiting.extend(called_by(self.function(&name)?));
-                reached.insert(name);
-            }
-        }
-        let all = self.0.iter().filter(|(name, _)| reached.contains(name));
-        Ok(all.map(|(name, item)| (name.as_str(), item)).collect())
-    }
-
-    fn function(&self, name: &str) -> Answer<&Json> {
-        let found = self.0.iter().find(|(other, _)| other == name);
-        let (_, item) = found.ok_or_else(|| format!("the MIR has no function {name}"))?;
-        Ok(item)
-    }
-}
-
-/// `[NAME, FUNCTION]`.
-fn named(found: Json) -> Answer<(String, Json)> {
-    let unlike = || "expected a name and a function".to_string();
-    let Json::List(parts) = found else {
-        return Err(unlike());
-    };
-    match <[Json; 2]>::try_from(parts) {
-        Ok([Json::Text(name), item]) => Ok((name, item)),
-        _ => Err(unlike()),
-    }
-}
-
-/// The functions that a function's JSON names in `Fn`, which is what a call names.
-fn called_by(found: &Json) -> Vec<String> {
-    match (found, found.form()) {
-        (_, ("Fn", [Json::Text(name), _])) => vec![name.clone()],
-        (Json::List(parts), _) => parts.iter().flat_map(called_by).collect(),
-        (Json::Object(parts), _) => parts.iter().flat_map(|part| called_by(&part.1)).collect(),
-        _ => Vec::new(),
-    }
-}
-
-/// Reads the functions that these reach.
-pub fn program(libraries: &Libraries, first: &[String]) -> Answer<Program> {
-    let mut program = Program {
-        functions: Vec::new(),
-        shapes: BTreeMap::new(),
-    };
-    for (name, item) in libraries.reached(first)? {
-        let refused = |why| format!("{name}: {why}");
-        let read = function(name, item, &mut program.shapes);
-        program.functions.push(read.map_err(refused)?);
-    }
-    Ok(program)
+/// What the functions declare: types, and which functions the methods of an impl are.
+#[derive(Default)]
+pub struct Declared {
+    types: BTreeMap<String, Rc<Json>>,
+    impls: BTreeMap<String, Vec<String>>,
+    /// What each type is made of, at the types that it is used at.
+    pub shapes: BTreeMap<Named, Shape>,
+    /// The types of which that is being read.
+    open: BTreeSet<Named>,
 }
 
 /// A form of MIR that the translator does not have.
-fn unknown<T>(what: &str, found: &Json) -> Answer<T> {
+pub fn unknown<T>(what: &str, found: &Json) -> Answer<T> {
     Err(format!("{} is not a known {what} of MIR", found.brief()))
 }
 
@@ -95,7 +30,7 @@ fn list<'a, T>(found: &'a Json, read: impl Fn(&'a Json) -> Answer<T>) -> Answer<
     found.list()?.iter().map(read).collect()
 }
 
-fn count(found: &Json) -> Answer<usize> {
+pub fn count(found: &Json) -> Answer<usize> {
     Ok(found.number()? as usize)
 }
 
@@ -120,53 +55,8 @@ pub const GENERICS: [&str; 6] = [
     "impls",
 ];
 
-fn function(name: &str, found: &Json, shapes: &mut BTreeMap<String, Shape>) -> Answer<Function> {
-    let [_, _, parameters, generics, types, locals, inner] = found.fields(FUNCTION)?;
-    let [of, _, bounds, method, _, impls] = generics.fields(GENERICS)?;
-    let is_plain = [of, bounds, impls].iter().all(|list| is_empty(list)) && *method == Json::Null;
-    if !is_plain {
-        return unknown("function without parameters for types", generics);
-    }
-    list(types, |found| declared(found))?
-        .into_iter()
-        .try_for_each(|(name, made_of)| declare(name, made_of, shapes))?;
-    let function = Function {
-        name: name.to_string(),
-        parameters: count(parameters)?,
-        locals: list(locals, local)?,
-        body: body(inner)?,
-    };
-    match most_local(inner) {
-        Some(number) if number >= function.locals.len() => {
-            Err(format!("there is no local {number}"))
-        }
-        _ if function.parameters >= function.locals.len() => {
-            Err("it has more parameters than locals".to_string())
-        }
-        _ => Ok(function),
-    }
-}
-
-fn is_empty(found: &Json) -> bool {
-    *found == Json::List(Vec::new())
-}
-
-/// The largest number of a local that a place names.
-fn most_local(found: &Json) -> Option<usize> {
-    match found {
-        Json::List(parts) => parts.iter().filter_map(most_local).max(),
-        Json::Object(parts) => parts
-            .iter()
-            .filter_map(|(key, part)| match key.as_str() {
-                "local" => count(part).ok(),
-                _ => most_local(part),
-            })
-            .max(),
-        _ => None,
-    }
-}
-
-// ---- types
+/// What is said of some methods besides: that the value is spent. The machine does not read it.
+pub const MAY_BE_IN_GENERICS: [&str; 1] = ["spends_self"];
 
 /// The parts of a declared type.
 pub const DECLARED: [&str; 10] = [
@@ -182,84 +72,476 @@ pub const DECLARED: [&str; 10] = [
     "is_tuple",
 ];
 
-/// A declared type: its name and what it is made of. It takes no types, and a copy of it is a copy of its bytes.
-fn declared(found: &Json) -> Answer<(&str, Shape)> {
-    let [name, _, _, types, numbers, bounds, owns, is_cell, made_of, is_tuple] =
-        found.fields(DECLARED)?;
-    let takes_none = *types == Json::Number(0) && is_empty(numbers) && is_empty(bounds);
-    let is_plain = ![owns, is_cell, is_tuple]
-        .iter()
-        .any(|it| **it != Json::Bool(false));
-    match takes_none && is_plain {
-        true => Ok((name.text()?, shape(made_of)?)),
+/// The parts of an impl that a function names.
+pub const IMPL: [&str; 8] = [
+    "name",
+    "lifetimes",
+    "outlives",
+    "types",
+    "type_outlives",
+    "bounds",
+    "of",
+    "methods",
+];
+
+/// The largest number of a local that a place names.
+pub fn most_local(found: &Json) -> Option<usize> {
+    match found {
+        Json::List(parts) => parts.iter().filter_map(most_local).max(),
+        Json::Object(parts) => parts
+            .iter()
+            .filter_map(|(key, part)| match key.as_str() {
+                "local" => count(part).ok(),
+                _ => most_local(part),
+            })
+            .max(),
+        _ => None,
+    }
+}
+
+/// Takes note of the types and the impls that a function declares. Each is the same wherever it is declared.
+pub fn declare(types: &Json, impls: &Json, known: &RefCell<Declared>) -> Answer<()> {
+    let mut known = known.borrow_mut();
+    for found in types.list()? {
+        let name = declared_type(found)?;
+        match known.types.get(name) {
+            Some(before) if !is_same_type(before, found)? => {
+                return Err(format!("{name} is declared in two ways"))
+            }
+            Some(_) => {}
+            None => {
+                known.types.insert(name.to_string(), Rc::new(found.clone()));
+            }
+        }
+    }
+    for found in impls.list()? {
+        let [name, _, _, _, _, _, _, methods] = found.fields(IMPL)?;
+        let (name, methods) = (name.text()?.to_string(), list(methods, Json::text)?);
+        let methods: Vec<String> = methods.into_iter().map(str::to_string).collect();
+        match known.impls.insert(name.clone(), methods.clone()) {
+            Some(before) if before != methods => {
+                return Err(format!("the impl {name} is declared in two ways"))
+            }
+            _ => {}
+        }
+    }
+    Ok(())
+}
+
+/// The name of a declared type. What is shared and written at once is not known; to let a value go is a call of MIR.
+fn declared_type(found: &Json) -> Answer<&str> {
+    let [name, _, _, types, numbers, _, owns, is_cell, _, is_tuple] = found.fields(DECLARED)?;
+    let is_plain =
+        types.number().is_ok() && numbers.list().is_ok() && *is_cell == Json::Bool(false);
+    match is_plain && owns.bool().is_ok() && is_tuple.bool().is_ok() {
+        true => name.text(),
         false => unknown("declared type", found),
     }
 }
 
-/// A type that functions declare is the same in each.
-fn declare(name: &str, made_of: Shape, shapes: &mut BTreeMap<String, Shape>) -> Answer<()> {
-    match shapes.insert(name.to_string(), made_of.clone()) {
-        Some(before) if before != made_of => Err(format!("{name} is declared in two ways")),
-        _ => Ok(()),
-    }
+fn is_same_type(one: &Json, other: &Json) -> Answer<bool> {
+    let [_, _, _, types, numbers, _, _, _, shape, _] = one.fields(DECLARED)?;
+    let [_, _, _, other_types, other_numbers, _, _, _, other_shape, _] = other.fields(DECLARED)?;
+    Ok((types, numbers, shape) == (other_types, other_numbers, other_shape))
 }
 
-fn shape(found: &Json) -> Answer<Shape> {
-    match found.form() {
-        ("Fields", fields) => Ok(Shape::Fields(types(fields)?)),
-        ("Variants", variants) => {
-            let variants = variants.iter().map(|fields| list(fields, ty));
-            Ok(Shape::Variants(variants.collect::<Answer<_>>()?))
+/// The parts of a body in one list, each statement before what stands in it.
+type Parts<'a> = std::slice::Iter<'a, Json>;
+
+fn next<'a>(parts: &mut Parts<'a>) -> Answer<&'a Json> {
+    parts.next().ok_or_else(|| "a body has no end".to_string())
+}
+
+/// What the numbers of a function's or a type's own parameters stand for.
+pub struct Forms<'a> {
+    pub types: &'a [Ty],
+    pub dictionaries: &'a [Dictionary],
+    pub known: &'a RefCell<Declared>,
+}
+
+impl Forms<'_> {
+    // ---- types
+
+    pub fn local(&self, found: &Json) -> Answer<Ty> {
+        let [of, home] = found.fields(["ty", "home"])?;
+        match home.text()? {
+            "ValueLocal" | "MemorySlot" => Ok(self.ty(of)?.held()),
+            _ => unknown("local", found),
         }
-        _ => unknown("shape of a type", found),
     }
-}
 
-fn types(found: &[Json]) -> Answer<Vec<Ty>> {
-    found.iter().map(ty).collect()
-}
-
-fn local(found: &Json) -> Answer<Ty> {
-    let [of, home] = found.fields(["ty", "home"])?;
-    match home.text()? {
-        "ValueLocal" | "MemorySlot" => ty(of),
-        _ => unknown("local", found),
+    fn types(&self, found: &Json) -> Answer<Vec<Ty>> {
+        list(found, |found| self.ty(found))
     }
-}
 
-fn ty(found: &Json) -> Answer<Ty> {
-    match found.form() {
-        ("Int", [bits]) => Ok(Ty::Int(width(bits)?)),
-        ("Bool", []) => Ok(Ty::Bool),
-        ("Unit", []) => Ok(Ty::Unit),
-        ("Ptr", []) => Ok(Ty::Ptr),
-        ("Ref", [_, mutable, to]) => Ok(Ty::reference(mutability(mutable)?, ty(to)?)),
-        ("Array", [of, length]) => Ok(Ty::Array(Box::new(ty(of)?), self::length(length)?)),
-        ("Named", [head, types]) if is_empty(types) => {
-            let [name, _] = head.fields(["name", "lifetimes"])?;
-            Ok(Ty::Named(name.text()?.to_string()))
+    fn parameter(&self, number: &Json, found: &Json) -> Answer<Ty> {
+        match self.types.get(count(number)?) {
+            Some(ty) => Ok(ty.clone()),
+            None => unknown("parameter", found),
         }
-        ("Struct", [name, Json::List(fields)]) if name.text()? == "&[]" => slice(found, fields),
-        _ => unknown("type", found),
     }
-}
 
-/// A slice of fields: a reference to its elements, and how many there are.
-fn slice(found: &Json, fields: &[Json]) -> Answer<Ty> {
-    match types(fields)?.as_slice() {
-        [Ty::Ref { mutable, to }, Ty::Int(64)] => {
-            let (mutable, of) = (*mutable, to.clone());
-            Ok(Ty::Slice { mutable, of })
+    pub fn ty(&self, found: &Json) -> Answer<Ty> {
+        match found.form() {
+            ("Int", [bits]) => Ok(Ty::Int(width(bits)?)),
+            ("Bool", []) => Ok(Ty::Bool),
+            ("Unit", []) => Ok(Ty::Unit),
+            ("Ptr", []) => Ok(Ty::Ptr),
+            ("Param", [number]) => self.parameter(number, found),
+            ("Const", [number]) => Ok(Ty::Number(number.number()?)),
+            ("Ref", [_, mutable, to]) => Ok(Ty::reference(mutability(mutable)?, self.ty(to)?)),
+            ("Array", [of, length]) => {
+                let (of, length) = (self.ty(of)?.held(), self.length(length)?);
+                Ok(Ty::Array(Box::new(of), length))
+            }
+            ("Named", [head, types]) => {
+                let [name, _] = head.fields(["name", "lifetimes"])?;
+                self.named(name.text()?, self.types(types)?)
+            }
+            ("Struct", [name, fields]) if name.text()? == "&[]" => self.slice(found, fields),
+            _ => unknown("type", found),
         }
-        _ => unknown("slice", found),
     }
-}
 
-/// How many elements an array has.
-fn length(found: &Json) -> Answer<u64> {
-    match found.form() {
-        ("Lit", [length]) => length.number(),
-        _ => unknown("length of an array", found),
+    /// A slice of fields: a reference to its elements, and how many there are.
+    fn slice(&self, found: &Json, fields: &Json) -> Answer<Ty> {
+        match self.types(fields)?.as_slice() {
+            [Ty::Ref { mutable, to }, Ty::Int(64)] => {
+                let (mutable, of) = (*mutable, to.clone());
+                Ok(Ty::Slice { mutable, of })
+            }
+            _ => unknown("slice", found),
+        }
+    }
+
+    /// A declared type at its types. Where it is declared, what it is made of is noted.
+    fn named(&self, name: &str, types: Vec<Ty>) -> Answer<Ty> {
+        let named = Named {
+            name: name.to_string(),
+            types,
+        };
+        let declared = {
+            let known = self.known.borrow();
+            let is_noted = known.shapes.contains_key(&named) || known.open.contains(&named);
+            known.types.get(name).filter(|_| !is_noted).cloned()
+        };
+        if let Some(declared) = declared {
+            self.known.borrow_mut().open.insert(named.clone());
+            let shape = self.made_of(&named, &declared)?;
+            let mut known = self.known.borrow_mut();
+            known.open.remove(&named);
+            known.shapes.insert(named.clone(), shape);
+        }
+        Ok(Ty::Named(named))
+    }
+
+    /// Takes note of what the declared types are made of that take no types.
+    pub fn plain_types(&self, declared: &Json) -> Answer<()> {
+        for found in declared.list()? {
+            let [name, _, _, types, _, _, _, _, _, _] = found.fields(DECLARED)?;
+            if count(types)? == 0 {
+                self.named(name.text()?, Vec::new())?;
+            }
+        }
+        Ok(())
+    }
+
+    fn made_of(&self, named: &Named, declared: &Json) -> Answer<Shape> {
+        let [_, _, _, types, _, _, _, _, shape, _] = declared.fields(DECLARED)?;
+        if count(types)? != named.types.len() {
+            return Err(format!("{named} with other types than it takes"));
+        }
+        let within = Forms {
+            types: &named.types,
+            dictionaries: &[],
+            known: self.known,
+        };
+        within.shape(shape)
+    }
+
+    fn shape(&self, found: &Json) -> Answer<Shape> {
+        let held = |found: &Json| Ok(self.ty(found)?.held());
+        match found.form() {
+            ("Fields", fields) => {
+                let fields = fields.iter().map(held);
+                Ok(Shape::Fields(fields.collect::<Answer<_>>()?))
+            }
+            ("Variants", variants) => {
+                let variants = variants.iter().map(|fields| list(fields, held));
+                Ok(Shape::Variants(variants.collect::<Answer<_>>()?))
+            }
+            _ => unknown("shape of a type", found),
+        }
+    }
+
+    /// How many elements an array has.
+    fn length(&self, found: &Json) -> Answer<u64> {
+        match found.form() {
+            ("Lit", [length]) => length.number(),
+            ("Param", [number]) => match self.parameter(number, found)? {
+                Ty::Number(length) => Ok(length),
+                _ => unknown("length of an array", found),
+            },
+            _ => unknown("length of an array", found),
+        }
+    }
+
+    // ---- values
+
+    fn place(&self, found: &Json) -> Answer<Place> {
+        let step = |found: &Json| match found.form() {
+            ("Deref", [to]) => Ok(Step::Deref(self.ty(to)?.held())),
+            ("Field", [number]) => Ok(Step::Field(count(number)?)),
+            ("Variant", [number]) => Ok(Step::Variant(count(number)?)),
+            _ => unknown("step of a place", found),
+        };
+        let [local, steps] = found.fields(["local", "steps"])?;
+        let (local, steps) = (count(local)?, list(steps, step)?);
+        Ok(Place { local, steps })
+    }
+
+    fn operand(&self, found: &Json) -> Answer<Operand> {
+        match found.form() {
+            ("Copy", [from]) => Ok(Operand::Copy(self.place(from)?)),
+            ("Int", [constant]) => {
+                let (width, number) = integer(constant, found)?;
+                Ok(Operand::Int(width, number))
+            }
+            ("True", []) => Ok(Operand::Bool(true)),
+            ("False", []) => Ok(Operand::Bool(false)),
+            ("Unit", []) => Ok(Operand::Unit),
+            ("SizeOf", [of]) => Ok(Operand::SizeOf(self.ty(of)?.held())),
+            ("NumOf", [bits, of]) => match (width(bits)?, self.ty(of)?) {
+                (width, Ty::Number(number)) if has_bits(width, number) => {
+                    Ok(Operand::Int(width, number))
+                }
+                _ => unknown("operand", found),
+            },
+            _ => unknown("operand", found),
+        }
+    }
+
+    fn operands(&self, found: &[Json]) -> Answer<Vec<Operand>> {
+        found.iter().map(|found| self.operand(found)).collect()
+    }
+
+    fn value(&self, found: &Json) -> Answer<Value> {
+        match found.form() {
+            ("Opd", [of]) => Ok(Value::Operand(self.operand(of)?)),
+            ("Op2", [what, left, right]) => {
+                operation(what, self.operand(left)?, self.operand(right)?)
+            }
+            ("Op1", [what, of]) => match what.form() {
+                ("Not", []) => Ok(Value::Not(self.operand(of)?)),
+                ("Cast", [from, to, bits]) if is_unsigned(from) && is_unsigned(to) => {
+                    Ok(Value::Cast(width(bits)?, self.operand(of)?))
+                }
+                _ => unknown("operation", what),
+            },
+            ("AddrOf", [of]) => Ok(Value::AddressOf(self.place(of)?)),
+            ("Aggregate", parts) => Ok(Value::Aggregate(self.operands(parts)?)),
+            // An operand has no effect: read once or once for each element, it is the same.
+            ("Repeat", [of, times]) => {
+                let (of, times) = (self.operand(of)?, self.length(times)? as usize);
+                Ok(Value::Aggregate(vec![of; times]))
+            }
+            _ => unknown("value", found),
+        }
+    }
+
+    // ---- statements
+
+    pub fn body(&self, found: &Json) -> Answer<Vec<Statement>> {
+        let mut parts = found.list()?.iter();
+        let body = self.statements(&mut parts)?;
+        match parts.next() {
+            None => Ok(body),
+            Some(more) => Err(format!("{} behind the end of the body", more.brief())),
+        }
+    }
+
+    fn statements(&self, parts: &mut Parts) -> Answer<Vec<Statement>> {
+        let mut statements = Vec::new();
+        self.collect(parts, &mut statements)?;
+        Ok(statements)
+    }
+
+    fn collect(&self, parts: &mut Parts, into: &mut Vec<Statement>) -> Answer<()> {
+        let found = next(parts)?;
+        into.push(match found.form() {
+            ("Skip", []) => return Ok(()),
+            ("Seq", []) => {
+                self.collect(parts, into)?;
+                return self.collect(parts, into);
+            }
+            ("Assign", [to, from]) => Statement::Assign(self.place(to)?, self.value(from)?),
+            ("LendStatic", [to, of, what]) => {
+                let (of, what) = self.lent(of, what)?;
+                Statement::Assign(self.place(to)?, Value::Lent(of, what))
+            }
+            ("If", [condition]) => {
+                let condition = self.operand(condition)?;
+                Statement::If(condition, self.statements(parts)?, self.statements(parts)?)
+            }
+            ("Switch", [on, keys, has_default]) => {
+                let has_default = has_default.bool()?;
+                self.switch(found, self.operand(on)?, keys.list()?, has_default, parts)?
+            }
+            ("Block", []) => Statement::Block(self.statements(parts)?),
+            ("Loop", []) => Statement::Loop(self.statements(parts)?),
+            ("Exit", [number]) => Statement::Exit(count(number)?),
+            ("Return", []) => Statement::Return,
+            ("Unreachable", []) => Statement::Unreachable,
+            ("Call", [callee, arguments, result]) => Statement::Call {
+                function: self.called(callee)?,
+                arguments: self.operands(arguments.list()?)?,
+                result: self.place(result)?,
+            },
+            _ => return unknown("statement", found),
+        });
+        Ok(())
+    }
+
+    /// A constant that is lent, and its type. Where its pointers point into its block, the type is a struct of what lies there.
+    fn lent(&self, of: &Json, what: &Json) -> Answer<(Ty, Constant)> {
+        match (of.form(), constant(what)?) {
+            (("Struct", [name, fields]), Constant::Parts(parts)) if name.text()? == "" => {
+                let types = self.types(fields)?.into_iter().map(Ty::held);
+                let mut all = types.zip(parts.iter().cloned());
+                match (all.next(), fields.list()?.len() == parts.len()) {
+                    (Some((ty, first)), true) => {
+                        Ok((ty, Constant::Block(Box::new(first), all.collect())))
+                    }
+                    _ => unknown("lent constant", what),
+                }
+            }
+            (_, what) => Ok((self.ty(of)?.held(), what)),
+        }
+    }
+
+    /// A function, or a method of an impl: at the impl's types and dictionaries, and then its own.
+    fn called(&self, callee: &Json) -> Answer<Instance> {
+        let (name, mut types, mut dictionaries, own) = match callee.form() {
+            ("Fn", [name, own]) => (name.text()?.to_string(), Vec::new(), Vec::new(), own),
+            ("Method", [dictionary, number, own]) => {
+                let Dictionary {
+                    name,
+                    types,
+                    dictionaries,
+                } = self.dictionary(dictionary)?;
+                (
+                    self.method(&name, count(number)?)?,
+                    types,
+                    dictionaries,
+                    own,
+                )
+            }
+            _ => return unknown("call", callee),
+        };
+        let [own_types, own_dictionaries] = own.fields(["types", "dicts"])?;
+        types.extend(self.types(own_types)?);
+        dictionaries.extend(list(own_dictionaries, |found| self.dictionary(found))?);
+        Ok(Instance {
+            name,
+            types,
+            dictionaries,
+            sizes: Vec::new(),
+        })
+    }
+
+    fn method(&self, name: &str, number: usize) -> Answer<String> {
+        let known = self.known.borrow();
+        let method = known.impls.get(name).and_then(|all| all.get(number));
+        method
+            .cloned()
+            .ok_or_else(|| format!("the MIR declares no method {number} of the impl {name}"))
+    }
+
+    fn dictionary(&self, found: &Json) -> Answer<Dictionary> {
+        match found.form() {
+            ("Given", [number]) => match self.dictionaries.get(count(number)?) {
+                Some(given) => Ok(given.clone()),
+                None => unknown("dictionary", found),
+            },
+            ("Impl", [name, types, dictionaries]) => Ok(Dictionary {
+                name: name.text()?.to_string(),
+                types: self.types(types)?,
+                dictionaries: list(dictionaries, |found| self.dictionary(found))?,
+            }),
+            _ => unknown("dictionary", found),
+        }
+    }
+
+    /// The arms stand behind the switch, each in the place of its keys, and behind them the default if there is one.
+    fn switch(
+        &self,
+        found: &Json,
+        on: Operand,
+        keys: &[Json],
+        has_default: bool,
+        parts: &mut Parts,
+    ) -> Answer<Statement> {
+        let mut arms = Vec::new();
+        for keys in keys {
+            let (keys, body) = (list(keys, Json::number)?, self.statements(parts)?);
+            arms.push(Arm { keys, body });
+        }
+        let default = match has_default {
+            true => Some(self.statements(parts)?),
+            false if arms.is_empty() => return unknown("switch", found),
+            false => None,
+        };
+        Ok(Statement::Switch { on, arms, default })
+    }
+
+    // ---- sizes of C's callers
+
+    /// Takes the types with sizes of C's callers that a value of type `actual` shows, where a type that names parameters is expected.
+    pub fn refine(expected: &Json, actual: &Ty, types: &mut [Ty]) -> Answer<()> {
+        match (expected.form(), actual) {
+            (("Param", [number]), _) => {
+                if let Some(ty) = types.get_mut(count(number)?) {
+                    if actual.has_sizes() && ty.without_sizes() == actual.without_sizes() {
+                        *ty = actual.clone();
+                    }
+                }
+            }
+            (("Ref", [_, _, to]), Ty::Ref { to: target, .. }) => Self::refine(to, target, types)?,
+            (("Struct", [_, Json::List(fields)]), Ty::Slice { mutable, of }) => {
+                let at = Ty::reference(*mutable, (**of).clone());
+                Self::refine(&fields[0], &at, types)?
+            }
+            (("Named", [_, Json::List(parts)]), Ty::Named(named)) => {
+                for (part, ty) in parts.iter().zip(&named.types) {
+                    Self::refine(part, ty, types)?;
+                }
+            }
+            _ => {}
+        }
+        Ok(())
+    }
+
+    /// The types of a declared type that is made of parts of these types.
+    pub fn refined(&self, named: &Named, variant: Option<usize>, parts: &[Ty]) -> Answer<Named> {
+        let declared = self.known.borrow().types.get(&named.name).cloned();
+        let mut types = named.types.clone();
+        if let Some(declared) = declared {
+            let [_, _, _, _, _, _, _, _, shape, _] = declared.fields(DECLARED)?;
+            let fields = match (shape.form(), variant) {
+                (("Fields", fields), None) => fields,
+                (("Variants", variants), Some(chosen)) if chosen < variants.len() => {
+                    variants[chosen].list()?
+                }
+                _ => &[],
+            };
+            for (field, part) in fields.iter().zip(parts) {
+                Self::refine(field, part, &mut types)?;
+            }
+        }
+        match self.named(&named.name, types)? {
+            Ty::Named(named) => Ok(named),
+            other => Err(format!("{other} is no declared type")),
+        }
     }
 }
 
@@ -278,75 +560,40 @@ fn width(found: &Json) -> Answer<u64> {
     }
 }
 
-// ---- values
-
-fn place(found: &Json) -> Answer<Place> {
-    let step = |found: &Json| match found.form() {
-        ("Deref", [to]) => Ok(Step::Deref(ty(to)?)),
-        ("Field", [number]) => Ok(Step::Field(count(number)?)),
-        ("Variant", [number]) => Ok(Step::Variant(count(number)?)),
-        _ => unknown("step of a place", found),
-    };
-    let [local, steps] = found.fields(["local", "steps"])?;
-    let (local, steps) = (count(local)?, list(steps, step)?);
-    Ok(Place { local, steps })
+/// Bits and value of a constant.
+fn integer(constant: &Json, found: &Json) -> Answer<(u64, u64)> {
+    let [bits, number] = constant.fields(["width", "value"])?;
+    let (width, number) = (width(bits)?, number.number()?);
+    match has_bits(width, number) {
+        true => Ok((width, number)),
+        false => Err(format!("{} has more bits than its width", found.brief())),
+    }
 }
 
-fn operand(found: &Json) -> Answer<Operand> {
+/// A constant that is lent.
+fn constant(found: &Json) -> Answer<Constant> {
     match found.form() {
-        ("Copy", [from]) => Ok(Operand::Copy(place(from)?)),
-        ("Int", [constant]) => {
-            let [bits, number] = constant.fields(["width", "value"])?;
-            let (width, number) = (width(bits)?, number.number()?);
-            match has_bits(width, number) {
-                true => Ok(Operand::Int(width, number)),
+        ("Int", [it]) => {
+            let (width, number) = integer(it, found)?;
+            Ok(Constant::Int(width, number))
+        }
+        ("Bool", [value]) => Ok(Constant::Bool(value.bool()?)),
+        ("Unit", []) => Ok(Constant::Unit),
+        ("Ints", [numbers]) => {
+            let [bits, values] = numbers.fields(["width", "values"])?;
+            let (bits, values) = (width(bits)?, list(values, Json::number)?);
+            match values.iter().all(|value| has_bits(bits, *value)) {
+                true => Ok(Constant::Ints(bits, values)),
                 false => Err(format!("{} has more bits than its width", found.brief())),
             }
         }
-        ("True", []) => Ok(Operand::Bool(true)),
-        ("False", []) => Ok(Operand::Bool(false)),
-        ("Unit", []) => Ok(Operand::Unit),
-        _ => unknown("operand", found),
-    }
-}
-
-fn operands(found: &[Json]) -> Answer<Vec<Operand>> {
-    found.iter().map(operand).collect()
-}
-
-fn value(found: &Json) -> Answer<Value> {
-    match found.form() {
-        ("Opd", [of]) => Ok(Value::Operand(operand(of)?)),
-        ("Op2", [what, left, right]) => operation(what, operand(left)?, operand(right)?),
-        ("Op1", [what, of]) => match what.form() {
-            ("Not", []) => Ok(Value::Not(operand(of)?)),
-            ("Cast", [from, to, bits]) if is_unsigned(from) && is_unsigned(to) => {
-                Ok(Value::Cast(width(bits)?, operand(of)?))
-            }
-            _ => unknown("operation", what),
-        },
-        ("AddrOf", [of]) => Ok(Value::AddressOf(place(of)?)),
-        ("Aggregate", parts) => Ok(Value::Aggregate(operands(parts)?)),
-        // An operand has no effect: read once or once for each element, it is the same.
-        ("Repeat", [of, times]) => {
-            let (of, times) = (operand(of)?, length(times)? as usize);
-            Ok(Value::Aggregate(vec![of; times]))
+        ("Repeat", [of, times]) => Ok(Constant::Repeat(Box::new(constant(of)?), times.number()?)),
+        ("Parts", parts) => {
+            let parts = parts.iter().map(constant);
+            Ok(Constant::Parts(parts.collect::<Answer<_>>()?))
         }
-        _ => unknown("value", found),
-    }
-}
-
-/// A reference to a constant, which is an array of integers.
-fn lent(of: &Ty, constant: &Json) -> Answer<Value> {
-    let (Ty::Array(element, length), ("Ints", [numbers])) = (of, constant.form()) else {
-        return unknown("lent constant", constant);
-    };
-    let [bits, values] = numbers.fields(["width", "values"])?;
-    let (bits, values) = (width(bits)?, list(values, Json::number)?);
-    let fits = values.iter().all(|value| has_bits(bits, *value));
-    match **element == Ty::Int(bits) && values.len() as u64 == *length && *length > 0 && fits {
-        true => Ok(Value::Lent(bits, values)),
-        false => Err(format!("{} lent as {of}", constant.brief())),
+        ("Here", [place]) => Ok(Constant::Here(place.number()?)),
+        _ => unknown("lent constant", found),
     }
 }
 
@@ -366,13 +613,16 @@ fn operation(found: &Json, left: Operand, right: Operand) -> Answer<Value> {
         return unknown("operation", found);
     }
     Ok(match (word, signs.len()) {
-        ("Add", 1) => Value::Arithmetic("+", left, right),
-        ("Sub", 1) => Value::Arithmetic("-", left, right),
-        ("Mul", 1) => Value::Arithmetic("*", left, right),
+        ("Add", 1) | ("WrapAdd", 0) => Value::Arithmetic("+", left, right),
+        ("Sub", 1) | ("WrapSub", 0) => Value::Arithmetic("-", left, right),
+        ("Mul", 1) | ("WrapMul", 0) => Value::Arithmetic("*", left, right),
         ("Div", 1) => Value::Arithmetic("/", left, right),
         ("Rem", 1) => Value::Arithmetic("%", left, right),
+        ("And", 0) => Value::Arithmetic("&", left, right),
         ("Or", 0) => Value::Arithmetic("|", left, right),
         ("Xor", 0) => Value::Arithmetic("^", left, right),
+        ("Shl", 0) => Value::Arithmetic("<<", left, right),
+        ("Shr", 1) => Value::Arithmetic(">>", left, right),
         ("Lt", 1) => Value::Comparison("<", left, right),
         ("Le", 1) => Value::Comparison("<=", left, right),
         ("Eq", 0) => Value::Comparison("==", left, right),
@@ -380,102 +630,4 @@ fn operation(found: &Json, left: Operand, right: Operand) -> Answer<Value> {
         ("Offset", 0) => Value::Offset(left, right),
         _ => return unknown("operation", found),
     })
-}
-
-// ---- statements
-
-/// The parts of a body in one list, each statement before what stands in it.
-type Parts<'a> = std::slice::Iter<'a, Json>;
-
-fn body(found: &Json) -> Answer<Vec<Statement>> {
-    let mut parts = found.list()?.iter();
-    let body = statements(&mut parts)?;
-    match parts.next() {
-        None => Ok(body),
-        Some(more) => Err(format!("{} behind the end of the body", more.brief())),
-    }
-}
-
-fn next<'a>(parts: &mut Parts<'a>) -> Answer<&'a Json> {
-    parts.next().ok_or_else(|| "a body has no end".to_string())
-}
-
-fn statements(parts: &mut Parts) -> Answer<Vec<Statement>> {
-    let mut statements = Vec::new();
-    collect(parts, &mut statements)?;
-    Ok(statements)
-}
-
-fn collect(parts: &mut Parts, into: &mut Vec<Statement>) -> Answer<()> {
-    let found = next(parts)?;
-    into.push(match found.form() {
-        ("Skip", []) => return Ok(()),
-        ("Seq", []) => {
-            collect(parts, into)?;
-            return collect(parts, into);
-        }
-        ("Assign", [to, from]) => Statement::Assign(place(to)?, value(from)?),
-        ("LendStatic", [to, of, what]) => Statement::Assign(place(to)?, lent(&ty(of)?, what)?),
-        ("If", [condition]) => {
-            let condition = operand(condition)?;
-            Statement::If(condition, statements(parts)?, statements(parts)?)
-        }
-        ("Switch", [on, keys, has_default]) => switch(
-            found,
-            operand(on)?,
-            keys.list()?,
-            has_default.bool()?,
-            parts,
-        )?,
-        ("Block", []) => match next(parts)? {
-            inner if inner.form() == ("Loop", &[]) => Statement::Loop(statements(parts)?),
-            inner => return unknown("statement in a block", inner),
-        },
-        ("Exit", [number]) => match number.number()? {
-            0 => Statement::Continue,
-            1 => Statement::Break,
-            _ => return unknown("exit", found),
-        },
-        ("Return", []) => Statement::Return,
-        ("Call", [callee, arguments, result]) => Statement::Call {
-            function: called(callee)?,
-            arguments: operands(arguments.list()?)?,
-            result: place(result)?,
-        },
-        _ => return unknown("statement", found),
-    });
-    Ok(())
-}
-
-/// A function by its name, which takes no types.
-fn called(callee: &Json) -> Answer<String> {
-    let ("Fn", [name, arguments]) = callee.form() else {
-        return unknown("call", callee);
-    };
-    let [types, dictionaries] = arguments.fields(["types", "dicts"])?;
-    match is_empty(types) && is_empty(dictionaries) {
-        true => Ok(name.text()?.to_string()),
-        false => unknown("call", callee),
-    }
-}
-
-/// The arms stand behind the switch, each in the place of its keys, and behind them the default if there is one.
-fn switch(
-    found: &Json,
-    on: Operand,
-    keys: &[Json],
-    has_default: bool,
-    parts: &mut Parts,
-) -> Answer<Statement> {
-    let mut arms = Vec::new();
-    for keys in keys {
-        let (keys, body) = (list(keys, Json::number)?, statements(parts)?);
-        arms.push(Arm { keys, body });
-    }
-    let default = match has_default {
-        true => Some(statements(parts)?),
-        false if arms.is_empty() => return unknown("switch", found),
-        false => None,
-    };
-    Ok(Statement::Switch { on, arms, default })
 }

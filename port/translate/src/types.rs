@@ -1,14 +1,36 @@
 //! Types of MIR as types of C: their names, their fields, and their declarations.
 
 use crate::interface::Interface;
-use crate::mir::{Function, Program, Shape, Ty};
+use crate::mir::{Instance, Named, Program, Shape, Ty};
 use crate::Answer;
-use std::collections::BTreeSet;
+use std::collections::BTreeMap;
 use std::fmt::Write;
 
-/// `a::b` as `a__b`, so that `element::execute` is not `element_execute`.
+/// `a::b` as `a__b`, so that `element::execute` is not `element_execute`. `(,)` is `tuple2`; any other sign that C does not have is `_`.
 pub fn identifier(name: &str) -> String {
-    name.replace("::", "__")
+    let commas = name.trim_matches(['(', ')']);
+    if name.starts_with('(') && commas.chars().all(|sign| sign == ',') {
+        return format!("tuple{}", commas.len() + 1);
+    }
+    let known = |sign: char| {
+        if sign.is_ascii_alphanumeric() {
+            sign
+        } else {
+            '_'
+        }
+    };
+    name.chars().map(known).collect()
+}
+
+/// The name of a function in C: behind its own the types and numbers that it takes, as `core__option__OptionTry__branch__usize`.
+pub fn function_name(instance: &Instance) -> String {
+    at_types(identifier(&instance.name), &instance.types)
+}
+
+fn at_types(name: String, types: &[Ty]) -> String {
+    let parts = types.iter().map(part_name);
+    let parts: Vec<String> = std::iter::once(name).chain(parts).collect();
+    parts.join("__")
 }
 
 /// The name of a function's local.
@@ -67,26 +89,30 @@ impl Types<'_> {
         Ok(match ty {
             Ty::Int(bits) => integer(*bits),
             Ty::Bool => "bool".to_string(),
-            Ty::Unit => "void".to_string(),
-            Ty::Ptr => return Err("a raw pointer in which nothing is stored".to_string()),
+            Ty::Size => "size_t".to_string(),
+            ty if self.program.is_nothing(ty) => "void".to_string(),
+            Ty::Ptr => "void *".to_string(),
             Ty::Ref { .. } => match ty.pointee()? {
-                (true, Ty::Int(64)) => {
-                    return Err(format!(
-                        "{ty}: behind a reference C has size_t, which is only read"
-                    ))
-                }
-                (false, Ty::Int(64)) => "const size_t *".to_string(),
-                (true, to) => format!("{} *", self.name(to)?),
-                (false, to) => format!("const {} *", self.name(to)?),
+                (true, to) => declarator(&self.name(to)?, "*"),
+                (false, to @ (Ty::Ref { .. } | Ty::Ptr)) => format!("{}const *", self.name(to)?),
+                (false, to) => declarator(&format!("const {}", self.name(to)?), "*"),
             },
-            Ty::Array(of, length) => format!("array_{}_{length}", part_name(of)?),
-            Ty::Slice { mutable: true, of } => format!("slice_mut_{}", part_name(of)?),
-            Ty::Slice { mutable: false, of } => format!("slice_{}", part_name(of)?),
-            Ty::Named(name) => match self.interface.host_struct(name) {
+            Ty::Array(of, length) => format!("array_{}_{length}", part_name(of)),
+            Ty::Slice { of, .. } if self.program.is_nothing(of) => {
+                return Err(format!("a slice of {of}, which says nothing"))
+            }
+            Ty::Slice { .. } => part_name(ty),
+            Ty::Named(named) => match self.interface.host_struct(named) {
                 Some(host) => host.c.clone(),
-                None => identifier(name),
+                None => at_types(identifier(&named.name), &named.types),
             },
+            Ty::Unit | Ty::Number(_) => return Err(format!("{ty} as a type")),
         })
+    }
+
+    /// Whether a value of the type is left out of C.
+    pub fn is_nothing(self, ty: &Ty) -> bool {
+        self.program.is_nothing(ty)
     }
 
     /// The fields of a struct or a slice, or of an enum seen as one of its variants, whose first is the tag.
@@ -110,7 +136,7 @@ impl Types<'_> {
         }
     }
 
-    fn struct_fields(self, of: &str, types: &[Ty]) -> Vec<Field> {
+    fn struct_fields(self, of: &Named, types: &[Ty]) -> Vec<Field> {
         let numbered = types.iter().enumerate();
         match self.interface.host_struct(of) {
             None => numbered
@@ -126,24 +152,18 @@ impl Types<'_> {
         }
     }
 
-    /// The head of a function, without `static`.
-    pub fn signature(self, function: &Function) -> Answer<String> {
-        if function.locals[1..=function.parameters].contains(&Ty::Unit) {
-            return Err("a parameter of type ()".to_string());
-        }
-        let parameters: Vec<String> = (1..=function.parameters)
-            .map(|number| {
-                Ok(declarator(
-                    &self.name(&function.locals[number])?,
-                    &local(number),
-                ))
-            })
+    /// The head of a function, without `static`. A parameter that says nothing is left out.
+    pub fn signature(self, of: &Instance, result: &Ty, parameters: &[Ty]) -> Answer<String> {
+        let numbered = parameters.iter().zip(1..);
+        let parameters: Vec<String> = numbered
+            .filter(|(ty, _)| !self.is_nothing(ty))
+            .map(|(ty, number)| Ok(declarator(&self.name(ty)?, &local(number))))
             .collect::<Answer<_>>()?;
         let parameters = parameter_list(&parameters);
-        let result = self.name(&function.locals[0])?;
+        let name = function_name(of);
         Ok(declarator(
-            &result,
-            &format!("{}({parameters})", identifier(&function.name)),
+            &self.name(result)?,
+            &format!("{name}({parameters})"),
         ))
     }
 }
@@ -157,20 +177,45 @@ fn variant_fields(variant: usize, types: &[Ty]) -> Vec<Field> {
         .collect()
 }
 
-/// The name of a type within the name of another.
-fn part_name(ty: &Ty) -> Answer<String> {
+/// The name of a type within the name of another. Of a type of core it is the last part.
+fn part_name(ty: &Ty) -> String {
     match ty {
-        Ty::Int(64) => Ok("usize".to_string()),
-        Ty::Int(bits) => Ok(format!("u{bits}")),
-        Ty::Named(name) => Ok(identifier(name)),
-        other => Err(format!("an array or a slice of {other}")),
+        Ty::Int(64) => "usize".to_string(),
+        Ty::Int(bits) => format!("u{bits}"),
+        Ty::Size => "size".to_string(),
+        Ty::Bool => "bool".to_string(),
+        Ty::Unit => "unit".to_string(),
+        Ty::Ptr => "ptr".to_string(),
+        Ty::Ref { mutable, to } => {
+            let word = if *mutable { "mut" } else { "ref" };
+            format!("{word}_{}", part_name(to))
+        }
+        Ty::Array(of, length) => format!("array_{}_{length}", part_name(of)),
+        Ty::Slice { mutable, of } => {
+            let word = if *mutable { "slice_mut" } else { "slice" };
+            // The callers' sizes have the short name.
+            let of = match &**of {
+                Ty::Size => "usize".to_string(),
+                Ty::Int(64) => "u64".to_string(),
+                of => part_name(of),
+            };
+            format!("{word}_{of}")
+        }
+        Ty::Named(Named { name, types }) => {
+            let own = match name.strip_prefix("core::") {
+                Some(within) => within.rsplit("::").next().unwrap_or(within),
+                None => name,
+            };
+            at_types(identifier(own), types)
+        }
+        Ty::Number(number) => number.to_string(),
     }
 }
 
 /// The declarations of types, each before its first use.
 pub struct Declarations<'a> {
     types: Types<'a>,
-    declared: BTreeSet<String>,
+    declared: BTreeMap<String, Ty>,
     pub text: String,
 }
 
@@ -178,21 +223,24 @@ impl<'a> Declarations<'a> {
     pub fn new(types: Types<'a>) -> Declarations<'a> {
         Declarations {
             types,
-            declared: BTreeSet::new(),
+            declared: BTreeMap::new(),
             text: String::new(),
         }
     }
 
     pub fn declare(&mut self, ty: &Ty) -> Answer<()> {
         match ty {
-            Ty::Int(_) | Ty::Bool | Ty::Unit | Ty::Ptr => return Ok(()),
+            Ty::Int(_) | Ty::Size | Ty::Bool | Ty::Unit | Ty::Ptr | Ty::Number(_) => return Ok(()),
             Ty::Ref { to, .. } => return self.declare(to.elements().unwrap_or(to)),
             Ty::Named(name) if self.types.interface.host_struct(name).is_some() => return Ok(()),
+            _ if self.types.is_nothing(ty) => return Ok(()),
             Ty::Slice { .. } | Ty::Array(..) | Ty::Named(_) => {}
         }
         let name = self.types.name(ty)?;
-        if !self.declared.insert(name.clone()) {
-            return Ok(());
+        match self.declared.insert(name.clone(), ty.clone()) {
+            None => {}
+            Some(before) if before == *ty => return Ok(()),
+            Some(before) => return Err(format!("{before} and {ty} have one name in C")),
         }
         let members = self.members(ty)?;
         let comment = match ty {
@@ -218,9 +266,13 @@ impl<'a> Declarations<'a> {
                     declarator(&at, "at")
                 ))
             }
-            Ty::Array(of, length) => {
+            Ty::Array(of, _) => {
+                let of = of.elements().unwrap_or(of);
                 self.declare(of)?;
-                Ok(format!("    {} at[{length}];\n", self.types.name(of)?))
+                // An array of C has an element.
+                let length = ty.count().max(1);
+                let at = declarator(&self.types.name(of)?, &format!("at[{length}]"));
+                Ok(format!("    {at};\n"))
             }
             Ty::Named(full) => match self.types.program.shape(full)? {
                 Shape::Fields(fields) => self.fields(0, fields, "    "),
@@ -234,8 +286,8 @@ impl<'a> Declarations<'a> {
     fn variants(&mut self, variants: &[Vec<Ty>]) -> Answer<String> {
         let mut parts = String::new();
         for (number, fields) in variants.iter().enumerate() {
+            let fields = self.fields(1, fields, "            ")?;
             if !fields.is_empty() {
-                let fields = self.fields(1, fields, "            ")?;
                 write!(parts, "        struct {{\n{fields}        }} v{number};\n").unwrap();
             }
         }
@@ -246,11 +298,11 @@ impl<'a> Declarations<'a> {
     }
 
     fn fields(&mut self, first: usize, fields: &[Ty], margin: &str) -> Answer<String> {
-        if fields.is_empty() {
-            return Err("a struct of no fields".to_string());
-        }
         let mut text = String::new();
         for (number, field) in fields.iter().enumerate() {
+            if self.types.is_nothing(field) {
+                continue;
+            }
             self.declare(field)?;
             let name = format!("f{}", first + number);
             writeln!(

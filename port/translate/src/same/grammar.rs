@@ -4,7 +4,7 @@ use std::fmt;
 
 /// The sorts and their forms, named as in Rattle's `logic/Mir/Syntax.antt`, `Table.antt` and `Prog/Wired.antt`.
 /// `Number`, `Sym` (a type's name) and `Name` (a function's) have no forms: each reader has its own way to read them. Floats, vectors,
-/// threads, and functions and types that take types are not known.
+/// threads and calls through pointers are not known.
 const GRAMMAR: &str = "
 Members = nil | cons Member Members
 Member = pair Name Code
@@ -12,14 +12,15 @@ Code = fn_item Number Bounds Kinds Number Number Locals Body | spell_fn Table Fn
 Fn = fn_item Number Bounds Kinds Number Number Locals Body
 Bounds = nil | cons Bound Bounds
 Bound = pair Number Number
-Kinds = nil
+Kinds = nil | cons Kind Kinds
+Kind = a_type | a_number
 Locals = nil | cons Local Locals
 Local = local Ty Home
 Home = value_local | memory_slot
 Table = nil | cons Decl Table
 Decl = pair Sym Kinds Shape
 Shape = fields Tys | variants Tyss
-Ty = ty_int Width | ty_bool | ty_ptr | ty_ref Lifetime Mutability Ty | ty_array Ty Number | ty_unit | ty_struct Sym Tys | ty_named Head Tys
+Ty = ty_int Width | ty_bool | ty_ptr | ty_ref Lifetime Mutability Ty | ty_array Ty Number | ty_unit | ty_struct Sym Tys | ty_named Head Tys | ty_param Number | ty_const Number | ty_array_p Ty Number
 Tys = tnil | tcons Ty Tys
 Tyss = ttnil | ttcons Tys Tyss
 Head = pair Sym Lifetimes
@@ -29,18 +30,24 @@ Mutability = imm | mut
 Width = w8 | w16 | w32 | w64 | w128
 Sign = unsigned | signed
 Body = skip | seq Body Body | assign Place Rv | block Body | loop Body | cond Opd Body Body | switch Opd Arms | exit Number | return | call Callee Opds Place | unreachable | lend_static Place Ty Const
-Callee = fn₀ Name
+Callee = fn₀ Name | fn Name Args | method Dict Number Args
+Args = pair Tys Dicts
+Dict = impl Names Tys Dicts | given Number
+Dicts = dnil | dcons Dict Dicts
+Names = nil | cons Name Names
 Arms = arm Numbers Body Arms | default Body | no_default
 Numbers = nil | cons Number Numbers
 Place = place Number Steps
 Steps = nil | cons Step Steps
 Step = deref Ty | field Number | variant Number
-Rv = rv_opd Opd | op2 Op2 Opd Opd | op1 Op1 Opd | addr_of Place | aggregate Opds | repeat Opd Number
+Rv = rv_opd Opd | op2 Op2 Opd Opd | op1 Op1 Opd | addr_of Place | aggregate Opds | repeat Opd Number | repeat_p Opd Number
 Opds = nil | cons Opd Opds
-Opd = copy Place | int Width Number | int_big Width Number | int_neg Width Number | opd_true | opd_false | opd_unit
+Opd = copy Place | int Width Number | int_big Width Number | int_neg Width Number | opd_true | opd_false | opd_unit | size_of Ty | num_of Width Ty
 Op1 = bit_not | cast Sign Sign Width | ptr_addr | count_leading_zeros | count_trailing_zeros | count_ones
 Op2 = add Sign | sub Sign | mul Sign | div Sign | rem Sign | bit_and | bit_or | bit_xor | shl | shr Sign | eq | ne | lt Sign | le Sign | with_addr | offset | ptr_eq | ptr_ne | ptr_lt | ptr_le | wrap_add | wrap_sub | wrap_mul
-Const = c_ints Width Numbers
+Const = c_ints Width Numbers | c_int Width Number | c_bool Bool | c_unit | c_repeat Const Number | c_parts Consts
+Consts = cnil | ccons Const Consts
+Bool = true | false
 ";
 
 pub type Sort = &'static str;

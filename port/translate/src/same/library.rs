@@ -2,7 +2,7 @@
 
 use super::grammar::{node, parts_of, Sort, Tree};
 use crate::json::Json;
-use crate::read::{DECLARED, FUNCTION, GENERICS};
+use crate::read::{DECLARED, FUNCTION, GENERICS, IMPL, MAY_BE_IN_GENERICS};
 
 type Read = Result<Tree, String>;
 
@@ -11,11 +11,12 @@ type Read = Result<Tree, String>;
 pub fn code(function: &Json) -> Read {
     let [lifetimes, outlives, parameters, generics, types, locals, inner] =
         function.fields(FUNCTION)?;
-    let [of, _, bounds, _, _, _] = generics.fields(GENERICS)?;
+    let [of, by_types, bounds, _, _, impls] = generics.fields_and(GENERICS, &MAY_BE_IN_GENERICS)?;
+    let inner = with_methods(inner, impls.list()?)?;
     let mut parts = inner.list()?.iter();
     let item = vec![
         read("Number", lifetimes)?,
-        read("Bounds", outlives)?,
+        read("Bounds", &all_bounds(lifetimes, outlives, by_types)?)?,
         read("Kinds", of)?,
         Tree::Number(bounds.list()?.len() as u128),
         read("Number", parameters)?,
@@ -35,6 +36,68 @@ pub fn code(function: &Json) -> Read {
     }
 }
 
+/// What outlives what: lifetimes, and behind them the types that a function takes, whose numbers go on from its lifetimes' own.
+fn all_bounds(lifetimes: &Json, outlives: &Json, by_types: &Json) -> Result<Json, String> {
+    let mut all = outlives.list()?.to_vec();
+    for found in by_types.list()? {
+        let [Json::Number(ty), by] = found.list()? else {
+            return Err(format!("{} is no bound of a type", found.brief()));
+        };
+        let ("Named", [by]) = by.form() else {
+            return Err(format!("{} is no bound by a lifetime", found.brief()));
+        };
+        let number = u128::from(lifetimes.number()?) + ty;
+        all.push(Json::List(vec![Json::Number(number), by.clone()]));
+    }
+    Ok(Json::List(all))
+}
+
+/// The function without a table that says nothing of it: no type that it has is spelled, for each declared one stands behind a reference.
+/// The terms leave such a table out.
+pub fn unspelled(code: Tree) -> Tree {
+    match code.parts("spell_fn") {
+        [_, item] if !holds_declared(item) => item.clone(),
+        _ => code,
+    }
+}
+
+fn holds_declared(tree: &Tree) -> bool {
+    match tree {
+        Tree::Node(form, _) if form == "ty_ref" => false,
+        Tree::Node(form, parts) => form == "ty_named" || parts.iter().any(holds_declared),
+        _ => false,
+    }
+}
+
+/// The MIR with the methods of each impl that a dictionary is in place of its name, as the terms have it.
+fn with_methods(found: &Json, impls: &[Json]) -> Result<Json, String> {
+    let within = |part: &Json| with_methods(part, impls);
+    if let ("Impl", [name @ Json::Text(_), types, dictionaries]) = found.form() {
+        let parts = vec![methods(name, impls)?, within(types)?, within(dictionaries)?];
+        return Ok(Json::Object(vec![("Impl".to_string(), Json::List(parts))]));
+    }
+    Ok(match found {
+        Json::List(parts) => Json::List(parts.iter().map(within).collect::<Result<_, _>>()?),
+        Json::Object(parts) => {
+            let parts = parts
+                .iter()
+                .map(|(key, part)| Ok((key.clone(), within(part)?)));
+            Json::Object(parts.collect::<Result<_, String>>()?)
+        }
+        other => other.clone(),
+    })
+}
+
+fn methods(name: &Json, impls: &[Json]) -> Result<Json, String> {
+    for found in impls {
+        let [own, _, _, _, _, _, _, methods] = found.fields(IMPL)?;
+        if own == name {
+            return Ok(methods.clone());
+        }
+    }
+    Err(format!("the impl {} is not declared", name.brief()))
+}
+
 fn read(sort: Sort, found: &Json) -> Read {
     if let Some((nil, cons)) = list_forms(sort) {
         return list(sort, found.list()?, nil, cons);
@@ -51,7 +114,21 @@ fn read(sort: Sort, found: &Json) -> Read {
         ("Decl", _, _) => declared(sort, found),
         ("Opd", _, ("Int", [it])) => form(sort, "int", &it.fields(["width", "value"])?),
         ("Const", _, ("Ints", [it])) => form(sort, "c_ints", &it.fields(["width", "values"])?),
+        ("Const", _, ("Int", [it])) => form(sort, "c_int", &it.fields(["width", "value"])?),
+        ("Bool", Json::Bool(value), _) => form(sort, &value.to_string(), &[]),
+        ("Kind", _, _) => kind(found),
+        ("Args", _, _) => form(sort, "pair", &found.fields(["types", "dicts"])?),
         ("Callee", _, ("Fn", [name, arguments])) => called(sort, name, arguments),
+        ("Callee", _, ("Method", [dictionary, number, arguments])) => {
+            form(sort, "method", &[dictionary, number, arguments])
+        }
+        ("Ty", _, ("Array", [of, length])) | ("Rv", _, ("Repeat", [of, length])) => {
+            let word = if sort == "Ty" { "ty_array" } else { "repeat" };
+            match length.form() {
+                ("Param", [number]) => form(sort, &format!("{word}_p"), &[of, number]),
+                _ => form(sort, word, &[of, length]),
+            }
+        }
         ("Number" | "Width" | "Sym" | "Name" | "Bound" | "Callee", _, _) | (_, _, ("", _)) => {
             Err(format!("{sort} is expected, not {}", found.brief()))
         }
@@ -77,9 +154,10 @@ fn worded(sort: Sort, word: &str, found: &Json, parts: &[Json]) -> Read {
 /// The empty list of a sort, and what puts a member before a list, if the sort is one of lists.
 fn list_forms(sort: Sort) -> Option<(&'static str, &'static str)> {
     match sort {
-        "Bounds" | "Kinds" | "Locals" | "Table" | "Lifetimes" | "Numbers" | "Steps" | "Opds" => {
-            Some(("nil", "cons"))
-        }
+        "Bounds" | "Kinds" | "Locals" | "Table" | "Lifetimes" | "Numbers" | "Names" | "Steps"
+        | "Opds" => Some(("nil", "cons")),
+        "Dicts" => Some(("dnil", "dcons")),
+        "Consts" => Some(("cnil", "ccons")),
         "Tys" => Some(("tnil", "tcons")),
         "Tyss" => Some(("ttnil", "ttcons")),
         _ => None,
@@ -96,23 +174,50 @@ fn list(sort: Sort, members: &[Json], nil: &str, cons: &str) -> Read {
     Ok(tree)
 }
 
-/// A declared type: its name, the types that it takes, which are none, and its shape. The rest is not in the terms.
+/// Whether a parameter of a function is a type or a number.
+fn kind(found: &Json) -> Read {
+    let [_, _, bits] = found.fields(["is_copy", "is_kept", "const_bits"])?;
+    let word = if *bits == Json::Null {
+        "a_type"
+    } else {
+        "a_number"
+    };
+    form("Kind", word, &[])
+}
+
+/// A declared type: its name, what it takes, and its shape. The rest is not in the terms.
 fn declared(sort: Sort, found: &Json) -> Read {
     let [name, _, _, types, numbers, _, _, _, shape, _] = found.fields(DECLARED)?;
-    match (types, numbers) {
-        (Json::Number(0), Json::List(none)) if none.is_empty() => {
-            form(sort, "pair", &[name, numbers, shape])
+    let mut places = Vec::new();
+    for number in numbers.list()? {
+        match number.list()? {
+            [place, _] => places.push(place.number()?),
+            _ => return Err(format!("{} is no number among the types", number.brief())),
         }
-        _ => Err(format!("a type that takes types: {}", found.brief())),
+    }
+    let mut kinds = Tree::Node("nil".to_string(), Vec::new());
+    for place in (0..types.number()?).rev() {
+        let word = if places.contains(&place) {
+            "a_number"
+        } else {
+            "a_type"
+        };
+        let kind = form("Kind", word, &[])?;
+        kinds = Tree::Node("cons".to_string(), vec![kind, kinds]);
+    }
+    let parts = vec![read("Sym", name)?, kinds, read("Shape", shape)?];
+    match sort {
+        "Decl" => Ok(Tree::Node("pair".to_string(), parts)),
+        _ => Err(format!("a declared type where {sort} is expected")),
     }
 }
 
-/// A function by its name, which takes no types.
+/// A function by its name, at what it takes.
 fn called(sort: Sort, name: &Json, arguments: &Json) -> Read {
     let [types, dictionaries] = arguments.fields(["types", "dicts"])?;
     match types.list()?.is_empty() && dictionaries.list()?.is_empty() {
         true => form(sort, "fn₀", &[name]),
-        false => Err(format!("a call at types: {}", arguments.brief())),
+        false => form(sort, "fn", &[name, arguments]),
     }
 }
 
@@ -164,6 +269,7 @@ fn antt_name(sort: Sort, word: &str) -> String {
         (_, "If") => return "cond".to_string(),
         ("Lifetime", "Bound") => return "bound_lv".to_string(),
         ("Ty", _) => "ty_",
+        ("Const", _) => "c_",
         ("Rv", "Opd") => "rv_",
         ("Opd", "True" | "False" | "Unit") => "opd_",
         ("Op1", "LeadingZeros" | "TrailingZeros") => "count_",

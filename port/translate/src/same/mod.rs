@@ -3,5 +3,6 @@
 mod antt;
 pub mod difference;
 pub mod grammar;
+pub mod kit;
 pub mod library;
 pub mod terms;

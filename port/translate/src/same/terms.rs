@@ -2,6 +2,7 @@
 
 use super::antt::{Module, Term};
 use super::grammar::{node, number, Sort, Tree};
+use super::kit;
 use std::path::Path;
 
 /// What a function's name stands for in the program that its proof is about: that program is
@@ -68,23 +69,60 @@ impl Scope<'_> {
         }
     }
 
+    /// Whether a module is one of a crate that the folder has no terms of.
+    fn is_of_kit(&self, path: &str) -> bool {
+        let library: Vec<&str> = path.split('.').take(3).collect();
+        path.starts_with("Rattle.") && !self.terms.join(library.join("-")).exists()
+    }
+
+    /// The function that a name with arguments calls: the name is `Syntax.fn SYMBOL`.
+    fn called(&self, name: &str) -> Result<Tree, String> {
+        if let Some(term) = self.module.definition(name) {
+            let term = term?;
+            return match (self.module.used(&term.head), &term.parts[..]) {
+                (Some(("mir.Syntax", "fn")), [symbol]) => self.read("Name", symbol),
+                _ => Err(format!("`{name}` is {}, not `Syntax.fn`", term.head)),
+            };
+        }
+        match self.module.used(name) {
+            Some((path, _)) if self.is_of_kit(path) => Ok(kit_name(path)),
+            Some((path, member)) if path.starts_with("Rattle.") => {
+                Scope::open(self.terms, path)?.called(member)
+            }
+            _ => Err(format!("`{name}` is not known as a function")),
+        }
+    }
+
     /// A name with its parts: a definition of a crate is unfolded, a name of the logic is a form.
     fn value(&self, sort: Sort, name: &str, parts: &[Term]) -> Result<Tree, String> {
         if let (Some(term), []) = (self.module.definition(name), parts) {
             return self.read(sort, &term?);
         }
         let form = match (self.module.used(name), parts) {
+            (Some((path, _)), []) if sort == "Callee" && self.is_of_kit(path) => {
+                return Ok(Tree::Node("fn₀".to_string(), vec![kit_name(path)]));
+            }
             (Some((path, member)), []) if path.starts_with("Rattle.") => {
                 return Scope::open(self.terms, path)?.value(sort, member, &[]);
+            }
+            (Some((path, _)), [arguments]) if path.starts_with("Rattle.") && sort == "Callee" => {
+                let parts = vec![self.called(name)?, self.read("Args", arguments)?];
+                return Ok(Tree::Node("fn".to_string(), parts));
             }
             (Some(("mir.Syntax" | "mir.Table", form)), _) => form,
             (Some(("mathlib.Core.List", "[]")), _) => "nil",
             (Some(("mathlib.Core.List", "◌∷◌")), _) => "cons",
             (Some(("mir.MapTy", "spell_fn")), _) => "spell_fn",
+            (Some(("mathlib.Core.Bool", word @ ("true" | "false"))), []) => word,
             _ => return Err(format!("`{name}` is not known where {sort} is expected")),
         };
         constant(node(sort, form, parts, |sort, part| self.read(sort, part))?)
     }
+}
+
+/// The name of a function of the kit, by the module of its symbol.
+fn kit_name(path: &str) -> Tree {
+    kit::name(path.trim_end_matches(".Symbol").split('.'))
 }
 
 const RECORD: &str = "record lifetimes outlives ty_params givens params locals body";

@@ -1,6 +1,6 @@
 //! Small libraries of MIR as their mir.json has it, one function `lib::entry` in each, and their translation behind a header.
 
-use translate::{file, header, interface, read, Answer};
+use translate::{file, header, instances, interface, libraries, Answer};
 
 pub const HEADER: &str = "
 /* A comment; with a semicolon. */
@@ -34,6 +34,8 @@ function lib::entry
 
 pub const PAIR: &str = r#"{"Named":[{"name":"lib::Pair","lifetimes":[]},[]]}"#;
 pub const CHOICE: &str = r#"{"Named":[{"name":"lib::Choice","lifetimes":[]},[]]}"#;
+
+pub const SLICE: &str = r#"{"Struct":["&[]",[{"Ref":[{"Named":0},"Imm",{"Int":8}]},{"Int":64}]]}"#;
 
 /// A constant of so many bits.
 pub fn int(width: u64, value: u64) -> String {
@@ -110,10 +112,9 @@ pub fn local(ty: &str) -> String {
 
 /// `lib::entry(&[u8]) -> u8`: local 0 is a u8, 1 the slice, 2 a u8, 3 a u64, 4 a bool, 5 a raw pointer, then the given ones.
 pub fn entry(locals: &[&str], statements: &[&str]) -> String {
-    let slice = r#"{"Struct":["&[]",[{"Ref":[{"Named":0},"Imm",{"Int":8}]},{"Int":64}]]}"#;
     let own = [
         r#"{"Int":8}"#,
-        slice,
+        SLICE,
         r#"{"Int":8}"#,
         r#"{"Int":64}"#,
         r#""Bool""#,
@@ -156,9 +157,9 @@ pub fn translated(mir: &str, table: &str, header_text: &str) -> Answer<String> {
 
 /// The same for several libraries.
 pub fn translated_together(mir: &[String], table: &str, header_text: &str) -> Answer<String> {
-    let libraries = read::Libraries::new(mir)?;
+    let libraries = libraries::Libraries::new(mir, None)?;
     let interfaces = interface::read(table)?;
-    let program = read::program(&libraries, &interfaces[0].functions)?;
+    let program = instances::program(&libraries, &interfaces[0].functions)?;
     let header = header::read(header_text)?;
     file::print(&program, &interfaces[0], &header, "a kit")
 }

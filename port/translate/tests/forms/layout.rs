@@ -1,13 +1,13 @@
 //! Sizes of elements, by which pointers move: as the machine lays them out, not as C does.
 
-use translate::mir::{Program, Shape, Ty};
+use translate::mir::{Named, Program, Shape, Ty};
 
 fn size_of(shape: Shape) -> (u64, u64) {
     let program = Program {
         functions: Vec::new(),
-        shapes: [("lib::Own".to_string(), shape)].into(),
+        shapes: [(Named::plain("lib::Own"), shape)].into(),
     };
-    let own = Ty::Named("lib::Own".to_string());
+    let own = Ty::Named(Named::plain("lib::Own"));
     program.layout(&own).expect("it has a layout")
 }
 

@@ -4,9 +4,9 @@
 use crate::common::library;
 use std::fs;
 use std::path::{Path, PathBuf};
-use translate::read::Libraries;
+use translate::libraries::Libraries;
 use translate::same::difference::difference;
-use translate::same::{library as held, terms};
+use translate::same::{kit, library as held, terms};
 
 const HELD: &str = r#"["lib::least",{"lifetimes":0,"outlives":[],"params":2,
 "generics":{"types":[],"outlives":[],"bounds":[],"method_of":null,"trait_lifetimes":0,"impls":[]},
@@ -180,15 +180,14 @@ impl Drop for Terms {
 
 /// Where the two forms differ, or why they cannot be compared.
 fn compared(text: &str, terms: &Path) -> Result<Option<String>, String> {
-    let libraries = Libraries::new(&[library(&[text])])?;
+    let libraries = Libraries::new(&[library(&[text])], None)?;
     let name = match text.contains("\"lib::most\",{\"lifetimes") {
         true => "lib::most",
         false => "lib::least",
     };
-    let functions = libraries.reached(&[name.to_string()])?;
-    let (name, function) = functions[0];
+    let (_, function) = libraries.function(name)?;
     Ok(difference(
-        &held::code(function)?,
+        &held::code(&function)?,
         &terms::code(terms, name)?,
     ))
 }
@@ -308,12 +307,13 @@ fn what_is_not_known_is_an_error() {
         compared(&HELD.replacen(old, new, 1), &terms.0).expect_err("it is not known")
     };
     assert!(why(r#""Lt""#, r#""Rol""#).contains("rol"));
-    assert!(why(r#""type_params":0"#, r#""type_params":1"#).contains("takes types"));
+    assert!(why(r#""const_params":[]"#, r#""const_params":[[0]]"#).contains("no number"));
     assert!(
         why(r#""bounds":[],"method"#, r#""bounds":[],"extra":0,"method"#)
             .contains("expected the keys")
     );
-    assert!(why(r#""types":[],"dicts""#, r#""types":["Bool"],"dicts""#).contains("a call at types"));
+    let missing = r#""types":[],"dicts":[{"Impl":["lib::I",[],[]]}]"#;
+    assert!(why(r#""types":[],"dicts":[]"#, missing).contains("\"lib::I\" is not declared"));
     assert!(why(
         r#""Skip",
 "Seq""#,
@@ -325,4 +325,114 @@ fn what_is_not_known_is_an_error() {
     assert!(why
         .expect_err("there is no such file")
         .contains("most/Code.antt"));
+}
+
+/// `fn id<T>(T) -> T` by a call of `fn of<T>` of the kit, at types and a dictionary.
+const GENERIC: &str = r#"["lib::id",{"lifetimes":0,"outlives":[],"params":1,
+"generics":{"types":[{"is_copy":true,"is_kept":false,"const_bits":null},{"is_copy":true,"is_kept":false,"const_bits":64}],"outlives":[],"bounds":[{}],"method_of":null,"trait_lifetimes":0,
+"impls":[{"name":"kit::I","lifetimes":0,"outlives":[],"types":[],"type_outlives":[],"bounds":[],"of":{},"methods":["kit::I::one","kit::I::two"]}]},
+"types":[],
+"locals":[{"ty":{"Param":0},"home":"ValueLocal"},{"ty":{"Array":[{"Param":0},{"Param":1}]},"home":"ValueLocal"}],
+"body":["Seq",{"Call":[{"Fn":["kit::deep::Of::of",{"types":[{"Const":3}],"dicts":[{"Given":0},{"Impl":["kit::I",[],[]]}]}]},[{"NumOf":[64,{"Param":1}]}],{"local":0,"steps":[]}]},
+"Seq",{"Call":[{"Method":[{"Given":0},1,{"types":[],"dicts":[]}]},[{"SizeOf":{"Param":0}}],{"local":0,"steps":[]}]},"Return"]}]"#;
+
+const GENERIC_MIR: &str = "use Rattle.kit.proofs.prelude.Of.of.Symbol
+use mathlib.Core.List
+use mir.Syntax
+
+abbrev pub function : Syntax.Fn
+function = record {
+  lifetimes = 0;
+  outlives = List.[];
+  ty_params = List.◌∷◌ Syntax.a_type (List.◌∷◌ Syntax.a_number List.[]);
+  givens = 1;
+  params = 1;
+  locals =
+    List.◌∷◌ (Syntax.local (Syntax.ty_param 0) Syntax.value_local)
+    (List.◌∷◌ (Syntax.local (Syntax.ty_array_p (Syntax.ty_param 0) 1) Syntax.value_local) List.[]);
+  body =
+    Syntax.seq
+    (Syntax.call (Symbol.name (
+      Syntax.tcons (Syntax.ty_const 3) Syntax.tnil,
+      Syntax.dcons (Syntax.given 0) (Syntax.dcons (Syntax.impl
+        (List.◌∷◌ \"kit::I::one\" (List.◌∷◌ \"kit::I::two\" List.[]))
+        Syntax.tnil
+        Syntax.dnil) Syntax.dnil),
+    )) (List.◌∷◌ (Syntax.num_of Syntax.w64 (Syntax.ty_param 1)) List.[]) (Syntax.place 0 List.[]))
+    (Syntax.seq
+    (Syntax.call
+    (Syntax.method (Syntax.given 0) 1 (Syntax.tnil, Syntax.dnil))
+    (List.◌∷◌ (Syntax.size_of (Syntax.ty_param 0)) List.[])
+    (Syntax.place 0 List.[]))
+    Syntax.return);
+}
+";
+
+const GENERIC_CODE: &str = "use Rattle.lib.proofs.id.Code.Mir as Mir'
+use mathlib.Core.List
+use prog.Wired
+
+abbrev pub symbol : Syntax.Symbol
+symbol = \"lib::id\"
+
+unfoldable pub code : Wired.Code
+code = Wired.node (List.◌∷◌ (symbol, Mir'.function) List.[]) List.[] Wired.end
+";
+
+fn compared_generic(held: &str, mir: &str, test: &str) -> Result<Option<String>, String> {
+    let terms = Terms::new(test, MIR);
+    let folder = terms.0.join("Rattle-lib-proofs/id/Code");
+    fs::create_dir_all(&folder).expect("a folder is made");
+    fs::write(folder.join("Mir.antt"), mir).expect("a file is written");
+    fs::write(folder.with_extension("antt"), GENERIC_CODE).expect("a file is written");
+    let (_, function) = Libraries::new(&[library(&[held])], None)?.function("lib::id")?;
+    let is_own = |name: &str| name.starts_with("lib::");
+    let code = kit::renamed(held::code(&function)?, &is_own);
+    let term = terms::code(&terms.0, "lib::id")?;
+    Ok(difference(&held::unspelled(code), &held::unspelled(term)))
+}
+
+/// Types, numbers and dictionaries, and the last two words of the kit's names.
+#[test]
+fn generic_functions() {
+    let found = compared_generic(GENERIC, GENERIC_MIR, "generic");
+    assert_eq!(found, Ok(None));
+    let edits = [
+        (r#""const_bits":64"#, r#""const_bits":null"#),
+        (r#"{"Const":3}"#, r#"{"Const":4}"#),
+        (r#"{"Given":0},{"Impl""#, r#"{"Given":1},{"Impl""#),
+        (r#""kit::I::one","#, r#""kit::I::once","#),
+        (r#"Of::of""#, r#"If::of""#),
+        (r#"{"Given":0},1,"#, r#"{"Given":0},0,"#),
+        (r#"{"SizeOf":{"Param":0}}"#, r#"{"SizeOf":{"Param":1}}"#),
+        (r#"[64,{"Param":1}]"#, r#"[32,{"Param":1}]"#),
+        (r#""bounds":[{}],"method_of""#, r#""bounds":[],"method_of""#),
+        (r#"{"Param":0},{"Param":1}]"#, r#"{"Param":0},{"Lit":1}]"#),
+    ];
+    for (number, (old, new)) in edits.iter().enumerate() {
+        let edited = GENERIC.replacen(old, new, 1);
+        assert_ne!(edited, GENERIC, "{old} stands in the library");
+        let found = compared_generic(&edited, GENERIC_MIR, &format!("generic-{number}"));
+        assert!(matches!(found, Ok(Some(_))), "{new}: {found:?}");
+    }
+}
+
+/// A table of types that no type of the function needs is in one form alone: it says nothing there. Where one is needed, it is compared.
+#[test]
+fn tables_that_say_nothing() {
+    let declared = r#""types":[{"name":"lib::P","lifetimes":0,"bounds":[],"type_params":0,"const_params":[],"type_bounds":[],"owns":false,"is_cell":false,"shape":{"Fields":[]},"is_tuple":false}],
+"locals""#;
+    let with = |of: &str| {
+        let text = GENERIC.replacen("\"types\":[],\n\"locals\"", declared, 1);
+        text.replacen(r#""body":["#, &format!(r#""body":["Seq",{of},"#), 1)
+    };
+    let mir = GENERIC_MIR.replacen("\n  body =", "\n  body = Syntax.seq Syntax.skip (", 1);
+    let mir = mir.replacen("Syntax.return);", "Syntax.return));", 1);
+    assert_eq!(
+        compared_generic(&with(r#""Skip""#), &mir, "table"),
+        Ok(None)
+    );
+    let named = r#"{"Assign":[{"local":0,"steps":[]},{"Opd":{"SizeOf":{"Named":[{"name":"lib::P","lifetimes":[]},[]]}}}]}"#;
+    let found = compared_generic(&with(named), &mir, "needed");
+    assert!(matches!(found, Ok(Some(_))), "{found:?}");
 }

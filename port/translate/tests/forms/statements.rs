@@ -35,8 +35,14 @@ fn operations_by_their_signs() {
         (unsigned("Mul"), "*"),
         (unsigned("Div"), "/"),
         (unsigned("Rem"), "%"),
+        (r#""And""#.to_string(), "&"),
         (r#""Or""#.to_string(), "|"),
         (r#""Xor""#.to_string(), "^"),
+        (r#""Shl""#.to_string(), "<<"),
+        (unsigned("Shr"), ">>"),
+        (r#""WrapAdd""#.to_string(), "+"),
+        (r#""WrapSub""#.to_string(), "-"),
+        (r#""WrapMul""#.to_string(), "*"),
     ];
     for (word, sign) in signs {
         let wanted = format!("result = (uint8_t)((uint32_t)v2 {sign} (uint32_t)3u);");
@@ -80,22 +86,32 @@ fn a_constant_in_front_has_the_width_of_its_type() {
     let behind = set(3, &op2(&unsigned("Sub"), &copy(3, &[]), &int(64, 9)));
     assert_prints(
         &[],
-        &[&front, &behind],
+        &[&front, &behind, READ_SIZE],
         &["v3 = (usize)9u - v3;", "v3 = v3 - 9u;"],
     );
 }
 
-/// A size behind a reference is widened before anything is computed with it.
+/// A size that C's callers lend is widened before anything is computed with it; the library's own lies with 64 bits.
 #[test]
-fn sizes_behind_references_are_widened() {
-    let at = copy(6, &[r#"{"Deref":{"Int":64}}"#]);
-    let sum = set(3, &op2(&unsigned("Add"), &at, &at));
-    let sizes = r#"{"Ref":[{"Named":0},"Imm",{"Int":64}]}"#;
-    assert_prints(
-        &[sizes],
-        &[&sum, READ_SIZE],
-        &["v3 = (usize)*v6 + (usize)*v6;"],
-    );
+fn sizes_behind_references() {
+    let at = |local: usize| copy(local, &[r#"{"Deref":{"Int":64}}"#]);
+    let taken = set(6, &opd(&copy(1, &[r#"{"Field":0}"#])));
+    let sum = set(3, &op2(&unsigned("Add"), &at(6), &at(7)));
+    let sizes = reference("Imm", r#"{"Int":64}"#);
+    let body = entry(&[&sizes, &sizes], &[&taken, &sum, READ_SIZE]);
+    let mir = library(&[&body.replacen(r#""Imm",{"Int":8}"#, r#""Imm",{"Int":64}"#, 1)]);
+    let header = HEADER.replace("const uint8_t *bytes", "const size_t *bytes");
+    let text = translated(&mir, TABLE, &header).expect("it is translated");
+    let wanted = [
+        "    const size_t *at;\n",
+        "    const size_t *v6;\n",
+        "    const usize *v7;\n",
+        "    v6 = v1.at;\n",
+        "    v3 = (usize)*v6 + *v7;\n",
+    ];
+    for line in wanted {
+        assert!(text.contains(line), "no line {line} in {text}");
+    }
 }
 
 /// MIR moves a pointer by bytes, C by elements.
@@ -210,6 +226,42 @@ fn loops() {
         "return result;",
     ];
     assert_ends(&[&turn], &wanted);
+}
+
+/// An exit that C has no word for goes to a label.
+#[test]
+fn exits_from_deeper_blocks() {
+    let block = r#""Block","Seq",{"Exit":0},"Skip""#;
+    assert_ends(&[block], &["goto end1;", "end1:;", "return result;"]);
+    let on = copy(2, &[]);
+    let switch = format!(r#"{{"Switch":[{on},[[1]],true]}},{{"Exit":1}},{{"Exit":0}}"#);
+    let wanted = [
+        "for (;;) {",
+        "switch (v2) {",
+        "case 1u:",
+        "goto end1;",
+        "default:",
+        "continue;",
+        "}",
+        "}",
+        "end1:;",
+        "return result;",
+    ];
+    assert_ends(&[&format!(r#""Block","Loop",{switch}"#)], &wanted);
+    let wanted = [
+        "for (;;) {",
+        "for (;;) {",
+        "goto next2;",
+        "}",
+        "next2:;",
+        "}",
+        "return result;",
+    ];
+    assert_ends(&[r#""Block","Loop","Block","Loop",{"Exit":2}"#], &wanted);
+    assert_ends(
+        &[r#""Unreachable""#],
+        &["for (;;) { /* never */", "}", "return result;"],
+    );
 }
 
 /// With no default the last arm takes what cannot come up; an arm that returns needs no break.
