@@ -157,12 +157,10 @@ fn judge_state(command: &[u8], kind: Kind, byte: u8, room: usize) -> Verdict
 {
     let data = command::sent_data(command);
     let within = bounds::fits(command::offset(command), Length(data.len()), Length(1));
+    let becomes = expression::may_become(byte, command[8]);
     refuse_if(!is_life_cycle(kind), Refusal::AccessDenied)?;
     refuse_if(!within, Refusal::BoundaryExceeded)?;
-    refuse_if(
-        !expression::may_become(byte, command[8]),
-        Refusal::InvalidData,
-    )?;
+    refuse_if(!becomes, Refusal::InvalidData)?;
     bounds::fitting(Length(0), room)
 }
 

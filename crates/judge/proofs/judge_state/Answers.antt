@@ -21,12 +21,12 @@ returns-in_err-refuse_if-3 c =
     handed_out _ _ _ c.from_residual-in_err-refuse_if-3.ensures.1
     (gone_on _ _ _ _ _ (ap not c.is_life_cycle.ensures) c.in_ok-refuse_if.ensures
     (gone_on _ _ _ _ _ (ap not within) c.in_ok-refuse_if-2.ensures
-    (stopped _ _ _ _ _ (ap not (becomes c.args.command.now _ _ c.may_become.ensures)) c.in_err-refuse_if-3.ensures)))
+    (stopped _ _ _ _ _ (ap not (becomes c.args.command.now _ _ c.may_become-becomes.ensures)) c.in_err-refuse_if-3.ensures)))
 
 pub returns : goal.returns
 returns c =
     let within = sent_within _ _ _ _ _ c.offset.ensures c.sent_data-data.ensures c.fits-within.ensures in
     gone_on _ _ _ _ _ (ap not c.is_life_cycle.ensures) c.in_ok-refuse_if.ensures
     (gone_on _ _ _ _ _ (ap not within) c.in_ok-refuse_if-2.ensures
-    (gone_on _ _ _ _ _ (ap not (becomes c.args.command.now _ _ c.may_become.ensures)) c.in_ok-refuse_if-3.ensures
+    (gone_on _ _ _ _ _ (ap not (becomes c.args.command.now _ _ c.may_become-becomes.ensures)) c.in_ok-refuse_if-3.ensures
     c.fitting.ensures))
