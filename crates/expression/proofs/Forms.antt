@@ -132,7 +132,7 @@ module _ (k : Condition) (g : ℕ) (rest : List ℕ) (p : condition_allowed k �
       absurd (none-some left n)
 
 -- one group at least may come
-left_some : (j g left : ℕ) → 1 ≤ g → groups_after j g ≡ Some left → 1 ≤ left
+pub left_some : (j g left : ℕ) → 1 ≤ g → groups_after j g ≡ Some left → 1 ≤ left
 unfolding groups_after
 left_some j g left l q = go (eqb j 0xFD) (eqb j 0xFE && ltb 1 g) refl q
   where
@@ -236,4 +236,4 @@ well_formed_one r (x ∷ []) l e = e
 well_formed_one r (x ∷ y ∷ s) l e = absurd (omega arith)
 
 -- what the code of `well_formed` comes to
-pub ruleset forms = (well_formed_one, well_formed_long, well_formed_joined, piece_stops, piece_ends, piece_on, last_piece, fits_none)
+pub ruleset forms = (well_formed_one, well_formed_long, well_formed_joined, piece_stops, piece_ends, piece_on, left_some, last_piece, fits_none)

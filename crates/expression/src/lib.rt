@@ -1,7 +1,7 @@
 // Life cycle states and the form of access expressions in their bytes.
 #![tactic(auto)]
 
-ghost use Rattle.std.specs.Prelude.{◌≡◌, [], ◌∷◌, ◌+◌, ◌<◌, length};
+ghost use Rattle.std.specs.Prelude.{◌≡◌, [], ◌∷◌, ◌+◌, ◌<◌, ◌≤◌, length};
 ghost use Rattle.rules.specs.Basic.{is_some};
 ghost use Rattle.rules.specs.Expression.{is_state, may_become, expression, condition_allowed};
 ghost use Rattle.expression.specs.Conditions.{condition_at, groups_after};
@@ -72,15 +72,18 @@ pub fn condition_allowed(part: &[u8], at: usize) -> bool
 }
 
 // How many groups may still come, the present one counted, behind a byte that joins; none where it does not, or begins one too many.
+// The number is chosen before it is tested: a branch on the byte is often guessed wrong.
 #[tactic(auto, unfolding(crate::specs::Conditions::groups_after))]
 fn groups_after(joint: u8, groups: usize) -> Option<usize>
+    requires { 1 ≤ groups }
     ensures { result ≡ groups_after joint groups }
 {
-    match joint {
-        AND => Some(groups),
-        OR if 1 < groups => Some(groups - 1),
-        _ => None,
-    }
+    let left = match joint {
+        AND => groups,
+        OR => groups - 1,
+        _ => 0,
+    };
+    (0 < left).then_some(left)
 }
 
 // Whether one byte is an expression.

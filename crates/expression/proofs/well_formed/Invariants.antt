@@ -1,4 +1,4 @@
-use Prim.Native.Nat.{◌*◌}
+use Prim.Native.Nat.{◌*◌, ◌≤◌}
 use mathlib.Core.Path.{◌≡◌}
 use lib.ListN.{drop}
 use Rattle.rules.specs.Basic.{is_some}
@@ -7,4 +7,4 @@ use Rattle.expression.proofs.Forms.{fits}
 use Rattle.expression.proofs.well_formed.Given as goal
 
 abbrev pub invariant-loop-condition : goal.invariant-loop-condition
-invariant-loop-condition l = is_some (expression l.part) ≡ fits l.groups (drop (4 * l.condition-index) l.part)
+invariant-loop-condition l = (1 ≤ l.groups) × (is_some (expression l.part) ≡ fits l.groups (drop (4 * l.condition-index) l.part))
