@@ -57,25 +57,23 @@ module _ (c : List ℕ) (byte k n m : ℕ) (ek : k ≡ offset c) (en : n ≡ ask
       r ≡ put_in_front (done_response (shown c (byte ∷ []))) xs
   byte_answered r xs e = rw (← part) e
 
--- of a record's content
-module _ (c : List ℕ) (p : ℕ) (b : List ℕ) (k n u m : ℕ) (ek : k ≡ offset c) (en : n ≡ asked_length c) (eu : u ≡ used (object_at p b))
-    (em : m ≡ min u (k + n) - k) where
-  pub shown_within : offset c ≤ used (object_at p b) → k + m ≤ used (object_at p b)
+-- of a stored object's content
+module _ (c : List ℕ) (o : Object) (k n u m : ℕ) (ek : k ≡ offset c) (en : n ≡ asked_length c) (eu : u ≡ used o) (em : m ≡ min u (k + n) - k) where
+  pub shown_within : offset c ≤ used o → k + m ≤ used o
   shown_within h = omega (arith, ek, eu, em, h)
 
-  module _ (out : List ℕ) (eo : out ≡ take m (drop k (object_at p b).content)) where
-    shown_is : out ≡ shown c (object_at p b).content
-    shown_is = eo ∙ (rw (em, eu, en, ek) (shown_part c (object_at p b).content))
+  module _ (out : List ℕ) (eo : out ≡ take m (drop k o.content)) where
+    shown_is : out ≡ shown c o.content
+    shown_is = eo ∙ (rw (em, eu, en, ek) (shown_part c o.content))
 
-    pub data_answered : (r room : List ℕ) → r ≡ put_in_front (done_response out) room →
-        r ≡ put_in_front (done_response (shown c (object_at p b).content)) room
+    pub data_answered : (r room : List ℕ) → r ≡ put_in_front (done_response out) room → r ≡ put_in_front (done_response (shown c o.content)) room
     data_answered r room e = rw (← shown_is) e
 
-    pub shown_fits : (room : ℕ) → 4 + length (shown c (object_at p b).content) ≤ room → 4 + length out ≤ room
+    pub shown_fits : (room : ℕ) → 4 + length (shown c o.content) ≤ room → 4 + length out ≤ room
     shown_fits room f = omega (arith, ap length shown_is, f)
 
-    pub shown_small : Stored p b → length out < 65536
-    shown_small t = omega (arith, ap length shown_is, shown_length c (object_at p b).content)
+    pub shown_small : u < 65536 → length out < 65536
+    shown_small s = omega (arith, ap length shown_is, shown_length c o.content)
 
 -- what an action may, by the arm of a match --------------------------------------------------------------------------------------
 

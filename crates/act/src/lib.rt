@@ -10,19 +10,18 @@ ghost use Rattle.record.specs.Places.{object_at, Stored};
 ghost use Rattle.rules.specs.Operation.{shown};
 ghost use Rattle.act.specs.Acting.{done_with, session_does, record_does, InSessionMay, OnRecordMay, stored_at};
 
+use record::StoredObject;
 use rules::{Action, Length, ObjectNumber, Session};
 
 // The session after so many bytes of its object of this number were shown: a last error that was returned is cleared.
 fn shown_session(number: ObjectNumber, shown: Length, session: Session) -> Session
     ensures { result ≡ (if eqb number.0 0xF1C2 && leb 1 shown.0 then with_error 0 session else session) }
 {
-    if number.0 != 0xF1C2 {
-        return session;
+    if number.0 == 0xF1C2 && 1 <= shown.0 {
+        session::with_error(0, session)
+    } else {
+        session
     }
-    if shown.0 < 1 {
-        return session;
-    }
-    session::with_error(0, session)
 }
 
 // Answers a get of data from an object of the session: the session after it.
@@ -39,8 +38,7 @@ fn show_byte(
 {
     let asked = command::asked_length(command);
     let shown = bounds::shown_length(command::offset(command), asked, Length(1));
-    let one = [byte];
-    response::answer(room, &one[..shown.0]);
+    response::answer(room, &[byte][..shown.0]);
     shown_session(number, shown, session)
 }
 
@@ -78,17 +76,16 @@ pub fn act_in_session(
     }
 }
 
-// Answers a get of data from a found record: the stored bytes, a part of the store, are copied into the room.
-fn show_data(command: &[u8], store: &[u8], at: usize, room: &mut [u8])
-    requires { Stored at store.now × (10 ≤ length command.now) × (offset command.now ≤ used (object_at at store.now))
-        × (4 + length (shown command.now (object_at at store.now).content) ≤ length room.old) }
-    ensures { room.new ≡ done_with (shown command.now (object_at at store.now).content) room.old }
+// Answers a get of data from a stored object: the stored bytes, a part of the store, are copied into the room.
+fn show_data(command: &[u8], object: &StoredObject<'_>, room: &mut [u8])
+    requires { (10 ≤ length command.now) × (offset command.now ≤ used object.now)
+        × (4 + length (shown command.now object.now.content) ≤ length room.old) }
+    ensures { room.new ≡ done_with (shown command.now object.now.content) room.old }
 {
     let from = command::offset(command);
     let asked = command::asked_length(command);
-    let count = bounds::shown_length(from, asked, record::used_at(store, at));
-    let shown = record::data_part(store, at, from, count);
-    response::answer(room, shown);
+    let count = bounds::shown_length(from, asked, object.used());
+    response::answer(room, object.data(from, count));
 }
 
 // At a found record: the session stays.
@@ -99,8 +96,14 @@ pub fn act_on_record(asked: Action, command: &[u8], store: &mut [u8], at: usize,
         × (room.new ≡ done_with (record_does asked command.now (object_at at store.old)).answer room.old) }
 {
     match asked {
-        Action::GetData => show_data(command, store, at, room),
-        Action::GetMetadata => answer::write_answer(store, at, room),
+        Action::GetData => {
+            let object = StoredObject::at(store, at);
+            show_data(command, &object, room);
+        }
+        Action::GetMetadata => {
+            let object = StoredObject::at(store, at);
+            answer::write_answer(&object, room);
+        }
         Action::Write => {
             let from = command::offset(command);
             change::write(store, at, from, command::sent_data(command));

@@ -10,10 +10,9 @@ use lib.ListN.{length}
 use Rattle.rules.specs.declared.ObjectNumber.{ObjectNumber}
 use Rattle.rules.specs.declared.Kind.{Kind}
 use Rattle.rules.specs.declared.Session.{Session}
-use Rattle.rules.specs.declared.Found.TheVariants as found_at
 use Rattle.rules.specs.declared.Refusal.{Refusal}
 use Rattle.rules.specs.Verdict.{Verdict, accepted}
-use Rattle.std.specs.Prelude.{Err}
+use Rattle.std.specs.Prelude.{Some, None, Err}
 use Rattle.rules.specs.declared.Action.{Action}
 use Rattle.rules.specs.declared.Action.TheVariants.{GetData, GetMetadata, Write, EraseAndWrite, SetMetadata, Count, Append, Acknowledge}
 use Rattle.rules.specs.declared.Row.{Row}
@@ -44,8 +43,8 @@ use Rattle.record.proofs.Standing.{standing}
 use Rattle.store.proofs.Placing.{finds_it, recorded_there}
 use Rattle.command.specs.Table.{BodySent}
 use Rattle.command.proofs.InForm.{in_form}
-use Rattle.judge.specs.declared.Target.{Target}
-use Rattle.judge.specs.declared.Target.TheVariants.{InSession, InStore, Nothing}
+use Rattle.judge.specs.Aims.{Aim}
+use Rattle.judge.specs.declared.Target.TheVariants.{InSession, InStore}
 use Rattle.judge.specs.Targets.{target_object, Placed}
 use Rattle.judge.specs.Verdicts.{session_verdict}
 use Rattle.judge.proofs.Judging.{session_uses_none, session_judged}
@@ -113,7 +112,7 @@ session_alike Count c n byte room k os s m = absurd m
 session_alike Append c n byte room k os s m = absurd m
 session_alike Acknowledge c n byte room k os s m = absurd m
 
-module _ (a : Action) (c b : List ℕ) (s : Session) (aim : Target) (t : Placed aim c b) where
+module _ (a : Action) (c b : List ℕ) (s : Session) (aim : Aim) (t : Placed aim c b) where
   abbrev os : List Object
   os = or_else (unpack b) []
 
@@ -122,17 +121,17 @@ module _ (a : Action) (c b : List ℕ) (s : Session) (aim : Target) (t : Placed 
 
   -- the verdict was: accepted
   module _ (room : ℕ) (h : late (ruling_on a c (target_object aim b) (seen_in b s)) room ≡ accepted) where
-    pub session_may : (n : ObjectNumber) (k : Kind) (byte : ℕ) → aim ≡ InSession n k byte → InSessionMay a c byte room
+    pub session_may : (n : ObjectNumber) (k : Kind) (byte : ℕ) → aim ≡ Some (InSession n k byte) → InSessionMay a c byte room
     unfolding target_object
     session_may n k byte e =
         let of : of_session k ≡ true = rw e at t in
         session_told a c k byte room (session_judged c n.0 byte k see room of a ∙ rw e at h)
 
-    record_late : (p : ℕ) → aim ≡ InStore p → LatePassed a c (object_at p b) see room
+    record_late : (p : ℕ) → aim ≡ Some (InStore p) → LatePassed a c (object_at p b) see room
     unfolding target_object
     record_late p e = late_passed a c (object_at p b) see room (rw e at h)
 
-    pub record_may : (p : ℕ) → BodySent a c → aim ≡ InStore p → OnRecordMay a c (object_at p b) room
+    pub record_may : (p : ℕ) → BodySent a c → aim ≡ Some (InStore p) → OnRecordMay a c (object_at p b) room
     record_may p sent e =
         let there : Stored p b × (found (object_number c) os ≡ Some p) = rw e at t in
         record_told a c (object_at p b) see room (standing p b there.0.stands).allowed sent (record_late p e)
@@ -152,7 +151,7 @@ module _ (a : Action) (c b : List ℕ) (s : Session) (aim : Target) (t : Placed 
 
     module _ (room xs : List ℕ) (h : late (ruling_on a c (target_object aim b) (seen_in b s)) (length room) ≡ accepted) where
       -- at an object of the session nothing is stored
-      nothing_stored : (n : ObjectNumber) (k : Kind) (byte : ℕ) → aim ≡ InSession n k byte → (m : Option Object) →
+      nothing_stored : (n : ObjectNumber) (k : Kind) (byte : ℕ) → aim ≡ Some (InSession n k byte) → (m : Option Object) →
           (operation a c (session_object n.0 k byte) see).stores ≡ m → m ≡ none
       unfolding session_object target_object
       nothing_stored n k byte e none q = refl
@@ -161,7 +160,7 @@ module _ (a : Action) (c b : List ℕ) (s : Session) (aim : Target) (t : Placed 
           let l = late_passed a c (session_object n.0 k byte) see (length room) (rw e at h) in
           absurd (false≢true (told (operation_outside a c (session_object n.0 k byte) see new l.granted l.own q) of))
 
-      pub session_done : (n : ObjectNumber) (k : Kind) (byte : ℕ) (r : Session) → aim ≡ InSession n k byte → r ≡ (session_does a c n.0 byte s).session →
+      pub session_done : (n : ObjectNumber) (k : Kind) (byte : ℕ) (r : Session) → aim ≡ Some (InSession n k byte) → r ≡ (session_does a c n.0 byte s).session →
           xs ≡ put_in_front (done_response (session_does a c n.0 byte s).answer) room →
           executed (record { outcome = 0; session = r }) xs b ≡ performed (ruling_on a c (target_object aim b) (seen_in b s)) room os
       unfolding performed objects_after target_object ruling_on
@@ -172,7 +171,7 @@ module _ (a : Action) (c b : List ℕ) (s : Session) (aim : Target) (t : Placed 
           rw (e, er, ex, sessions, answers, stores, counters, none_used_up, ← packed)
 
       -- what is put at the place of a record is the packing of the changed objects
-      same_store : (p : ℕ) → aim ≡ InStore p → (m : Option Object) → (operation a c (object_at p b) see).stores ≡ m → stored_at p m b ≡ pack (replacing m os)
+      same_store : (p : ℕ) → aim ≡ Some (InStore p) → (m : Option Object) → (operation a c (object_at p b) see).stores ≡ m → stored_at p m b ≡ pack (replacing m os)
       unfolding stored_at replacing
       same_store p e none q = packed
       same_store p e (some new) q =
@@ -183,7 +182,7 @@ module _ (a : Action) (c b : List ℕ) (s : Session) (aim : Target) (t : Placed 
           recorded_there (object_number c) p b os unpacked there.1 new f.allowed f.number f.maximum
 
       -- and those objects are read back from it
-      still_sound : (p : ℕ) → aim ≡ InStore p → (m : Option Object) → (operation a c (object_at p b) see).stores ≡ m →
+      still_sound : (p : ℕ) → aim ≡ Some (InStore p) → (m : Option Object) → (operation a c (object_at p b) see).stores ≡ m →
           unpack (pack (replacing m os)) ≡ some (replacing m os)
       unfolding replacing
       still_sound p e none q = rw (← packed) unpacked
@@ -196,7 +195,7 @@ module _ (a : Action) (c b : List ℕ) (s : Session) (aim : Target) (t : Placed 
           unpack_pack (replaced new os) (replaced_fits (object_number c) os (object_at p b) new (pack_unpack b os unpacked).1 st f).allowed
 
       -- the store that the act leaves: the objects with the command's own change
-      module _ (p : ℕ) (b1 : List ℕ) (e : aim ≡ InStore p) (e1 : b1 ≡ stored_at p (record_does a c (object_at p b)).stores b) where
+      module _ (p : ℕ) (b1 : List ℕ) (e : aim ≡ Some (InStore p)) (e1 : b1 ≡ stored_at p (record_does a c (object_at p b)).stores b) where
         alike : Alike (record_does a c (object_at p b)) (operation a c (object_at p b) see)
         alike = operation_alike a c (object_at p b) (seen [] fresh_session) see
 
@@ -231,7 +230,7 @@ module _ (c b room : List ℕ) (s : Session) (a : early (is_some (unpack b)) c s
   judged_by v e = rw (a, e)
 
   -- at the object that is named
-  module _ (w : Action) (acts : row c ≡ OnObject w) (aim : Target) (ea : target_object aim b ≡ named (object_number c) (seen_in b s)) where
+  module _ (w : Action) (acts : row c ≡ OnObject w) (aim : Aim) (ea : target_object aim b ≡ named (object_number c) (seen_in b s)) where
     ruling_is : ruling_on w c (target_object aim b) (seen_in b s) ≡ ruling (row c) c (seen_in b s)
     unfolding ruling
     ruling_is = rw (acts, ea)

@@ -2,27 +2,25 @@
 #![tactic(auto)]
 
 ghost use Rattle.std.specs.Prelude.{◌≡◌, true, [], ◌≤◌, length};
-ghost use Rattle.rules.specs.declared.Verdict.TheVariants.{Accepted};
+ghost use Rattle.rules.specs.Verdict.{accepted};
 ghost use Rattle.rules.specs.declared.Row.TheVariants.{OnObject};
 ghost use Rattle.rules.specs.Basic.{is_some, or_else};
 ghost use Rattle.rules.specs.Command.{row};
 ghost use Rattle.rules.specs.Response.{code, done_response, refused_response, put_in_front};
-ghost use Rattle.rules.specs.Expression.{slot_size, most_conditions};
 ghost use Rattle.rules.specs.Layout.{unpack};
 ghost use Rattle.rules.specs.Access.{seen_in};
 ghost use Rattle.rules.specs.Refusals.{early, ruling_on, late};
 ghost use Rattle.rules.specs.Step.{raised, performed, judged};
 ghost use Rattle.command.specs.Table.{InFull, BodySent};
-ghost use Rattle.access.specs.Told.{listed};
 ghost use Rattle.judge.specs.Targets.{target_object, Placed};
 ghost use Rattle.element.specs.Executed.{executed, Executes};
 
 use access::Counters;
 use judge::Target;
-use rules::{Action, Refusal, Row, Session, Verdict};
+use rules::{Action, Refusal, Row, Session};
 
 // The outcome number and the session after a command.
-#[derive(Clone, Copy)]
+#[derive(Clone, Copy, Debug, PartialEq, Eq)]
 pub struct Answer {
     pub outcome: u8,
     pub session: Session,
@@ -33,21 +31,23 @@ pub struct Answer {
 fn perform(
     asked: Action,
     command: &[u8],
-    aim: Target,
-    counters: Counters,
+    aim: Option<Target>,
+    counters: &Counters,
     store: &mut [u8],
     session: Session,
     room: &mut [u8],
 ) -> Session
     requires { InFull asked command.now × BodySent asked command.now × (is_some (unpack store.old) ≡ true) × Placed aim command.now store.old
-        × (late (ruling_on asked command.now (target_object aim store.old) (seen_in store.old session)) (length room.old) ≡ Accepted)
-        × (listed counters ≡ (ruling_on asked command.now (target_object aim store.old) (seen_in store.old session)).counters)
-        × (counters.count ≤ most_conditions slot_size) }
+        × (late (ruling_on asked command.now (target_object aim store.old) (seen_in store.old session)) (length room.old) ≡ accepted)
+        × (counters.now ≡ (ruling_on asked command.now (target_object aim store.old) (seen_in store.old session)).counters) }
     ensures { executed (record { outcome = 0; session = result }) room.new store.new
         ≡ performed (ruling_on asked command.now (target_object aim store.old) (seen_in store.old session))
         room.old (or_else (unpack store.old) []) }
 {
-    match aim {
+    let Some(target) = aim else {
+        return session;
+    };
+    match target {
         Target::InSession(number, _, byte) => act::act_in_session(
             asked, command, number, byte, session, room,
         ),
@@ -56,7 +56,6 @@ fn perform(
             usage::use_up(store, counters);
             session
         }
-        Target::Nothing => session,
     }
 }
 
@@ -69,7 +68,7 @@ fn refuse(refusal: Refusal, session: Session, room: &mut [u8]) -> Answer
     response::refuse(room);
     Answer {
         outcome: 0,
-        session: session::raised(command::code(refusal), session),
+        session: session::raised(u8::from(refusal), session),
     }
 }
 
@@ -81,19 +80,25 @@ fn on_object(
     session: Session,
     room: &mut [u8],
 ) -> Answer
-    requires { (early (is_some (unpack store.old)) command.now session ≡ Accepted) × (row command.now ≡ OnObject asked) × (4 ≤ length room.old) }
+    requires { (early (is_some (unpack store.old)) command.now session ≡ accepted) × (row command.now ≡ OnObject asked) × (4 ≤ length room.old) }
     ensures { executed result room.new store.new
         ≡ judged command.now room.old store.old (unpack store.old) session }
 {
     let aim = judge::find_target(command, store, session);
     let judgment = judge::judge_target(asked, command, aim, store, session, room.len());
-    let verdict = judgment.verdict;
-    let counters = judgment.counters;
-    match verdict {
-        Verdict::Refused(refusal) => refuse(refusal, session, room),
-        Verdict::Accepted => Answer {
+    match judgment.verdict {
+        Err(refusal) => refuse(refusal, session, room),
+        Ok(()) => Answer {
             outcome: 0,
-            session: perform(asked, command, aim, counters, store, session, room),
+            session: perform(
+                asked,
+                command,
+                aim,
+                &judgment.counters,
+                store,
+                session,
+                room,
+            ),
         },
     }
 }
@@ -112,12 +117,11 @@ fn set_session(session: Session, room: &mut [u8]) -> Answer
 
 // A command that the steps 2 to 8 accept.
 fn carry_out(command: &[u8], store: &mut [u8], session: Session, room: &mut [u8]) -> Answer
-    requires { (early (is_some (unpack store.old)) command.now session ≡ Accepted) × (4 ≤ length room.old) }
+    requires { (early (is_some (unpack store.old)) command.now session ≡ accepted) × (4 ≤ length room.old) }
     ensures { executed result room.new store.new
         ≡ judged command.now room.old store.old (unpack store.old) session }
 {
-    let asked = command::row_of_command(command);
-    match asked {
+    match command::row_of_command(command) {
         Row::OnObject(action) => on_object(action, command, store, session, room),
         Row::OpenApplication => set_session(session::with_opened(true, session), room),
         Row::CloseApplication => set_session(session::with_opened(false, session), room),
@@ -137,9 +141,8 @@ pub fn execute(command: &[u8], store: &mut [u8], session: Session, room: &mut [u
     }
     let flushed = command::flushed(command, session);
     let sound = store::check_store(store);
-    let verdict = command::early(sound, command, flushed);
-    match verdict {
-        Verdict::Refused(refusal) => refuse(refusal, flushed, room),
-        Verdict::Accepted => carry_out(command, store, flushed, room),
+    match command::early(sound, command, flushed) {
+        Err(refusal) => refuse(refusal, flushed, room),
+        Ok(()) => carry_out(command, store, flushed, room),
     }
 }

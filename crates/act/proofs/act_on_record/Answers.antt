@@ -9,11 +9,11 @@ use Rattle.act.proofs.act_on_record.Goals as goal
 
 pub show_data-requires : goal.show_data-requires
 unfolding operation stored_at
-show_data-requires c = (search rules, search parts_there, search data_within, search data_fits)
+show_data-requires c = rw c.at-object.ensures (search parts_there, search data_within, search data_fits)
 
 pub write_answer-requires : goal.write_answer-requires
 unfolding operation stored_at
-write_answer-requires c = (search rules, search metadata_fits)
+write_answer-requires c = rw c.at-object-in-GetMetadata.ensures (search metadata_fits)
 
 pub offset-from-requires : goal.offset-from-requires
 unfolding operation stored_at
@@ -97,11 +97,11 @@ done-requires-in-Acknowledge c = search acknowledge_answered
 
 pub returns-in-GetData : goal.returns-in-GetData
 unfolding operation stored_at
-returns-in-GetData c = (search stored_by, search answered_by)
+returns-in-GetData c = let f = rw c.at-object.ensures at c.show_data.ensures in (search stored_by, search answered_by)
 
 pub returns-in-GetMetadata : goal.returns-in-GetMetadata
 unfolding operation stored_at
-returns-in-GetMetadata c = (search stored_by, search answered_by)
+returns-in-GetMetadata c = let f = rw c.at-object-in-GetMetadata.ensures at c.write_answer.ensures in (search stored_by, search answered_by)
 
 pub returns-in-Write : goal.returns-in-Write
 unfolding operation stored_at

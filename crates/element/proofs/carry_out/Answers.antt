@@ -4,8 +4,8 @@ use Rattle.command.proofs.InForm.{row_long}
 use borrow.Author.Rules.{rules}
 use Rattle.element.proofs.carry_out.Goals as goal
 
-pub row_of_command-asked-requires : goal.row_of_command-asked-requires
-row_of_command-asked-requires c = search row_long
+pub row_of_command-requires : goal.row_of_command-requires
+row_of_command-requires c = search row_long
 
 pub on_object-requires : goal.on_object-requires
 on_object-requires c = (search rules, search told, search rules)

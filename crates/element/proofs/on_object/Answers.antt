@@ -11,7 +11,7 @@ pub judge_target-judgment-requires : goal.judge_target-judgment-requires
 judge_target-judgment-requires c = (search action_in_full, search accepted_sound, search rules)
 
 pub perform-requires : goal.perform-requires
-perform-requires c = (search action_in_full, search action_body, search accepted_sound, search rules, told c.judge_target-judgment.ensures.0 (search rules), search rules, search rules)
+perform-requires c = (search action_in_full, search action_body, search accepted_sound, search rules, told c.judge_target-judgment.ensures.0 (search rules), search rules)
 
 pub returns-in-Err : goal.returns-in-Err
 returns-in-Err c = search refused_late
