@@ -145,10 +145,10 @@ impl Sight<'_> {
 
     // Whether there is an up counter of this number, below its threshold.
     #[tactic(auto, using(store::proofs::Ways::sound_leads, crate::proofs::Uses::not_usable, crate::proofs::Uses::counter_stored, crate::proofs::Uses::not_up, crate::proofs::Uses::up_usable, crate::proofs::Uses::up_counter))]
-    fn is_usable(&self, number: u16) -> bool
-        ensures { result ≡ usable (find number (or_else (unpack self.now.store.now) [])) }
+    fn is_usable(&self, number: ObjectNumber) -> bool
+        ensures { result ≡ usable (find number.0 (or_else (unpack self.now.store.now) [])) }
     {
-        let Some(at) = store::find_record(self.store, ObjectNumber(number)) else {
+        let Some(at) = store::find_record(self.store, number) else {
             return false;
         };
         let object = StoredObject::at(self.store, at);
@@ -162,7 +162,7 @@ impl Sight<'_> {
         ensures { result ≡ condition_holds (seen_in self.now.store.now self.now.session) self.now.lcso (condition_at 0 condition.now) }
     {
         match counter_named(condition) {
-            Some(number) => self.is_usable(number),
+            Some(number) => self.is_usable(ObjectNumber(number)),
             None => self.state_holds(condition),
         }
     }
@@ -192,20 +192,20 @@ impl Sight<'_> {
         requires { is_some (expression part.now) ≡ true }
         ensures { told result ≡ grant (seen_in self.now.store.now self.now.session) self.now.lcso (read_expression part.now) }
     {
-        if part.len() == 1 {
-            return if part[0] == 0x00 {
-                Some(Counters::none())
-            } else {
-                None
-            };
+        match part {
+            [only] if *only == 0x00 => Some(Counters::none()),
+            [_] => None,
+            _ => {
+                let start = self.deciding_group(part)?;
+                Some(group_counters(&part[start..]))
+            }
         }
-        let start = self.deciding_group(part)?;
-        Some(group_counters(&part[start..]))
     }
 }
 
 // The counters that an action on a stored object uses up, if it is granted: a plain write to a queue is not, whatever its change
 // expression says.
+#[tactic(auto, using(crate::proofs::Granting::asks_read, crate::proofs::Granting::asks_change, crate::proofs::Granting::write_asks_change, crate::proofs::Granting::metadata_free, crate::proofs::Granting::queue_closed, crate::proofs::Granting::slot_grants))]
 pub fn granted(
     asked: Action,
     object: &StoredObject<'_>,
