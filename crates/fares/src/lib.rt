@@ -41,7 +41,7 @@ pub fn append(store: &mut [u8], at: usize, body: &[u8])
     requires { Stored at store.old × MayAppend (object_at at store.old) body.now }
     ensures { store.new ≡ appended_at at body.now store.old }
 {
-    let used = record::used_at(store, at);
+    let used = StoredObject::at(store, at).used();
     let a = at + record::DATA;
     let e = record::data_end(store, at);
     let then = queue::append(&mut store[a..e], used, body);
@@ -53,7 +53,7 @@ pub fn acknowledge(store: &mut [u8], at: usize, number: u32)
     requires { Stored at store.old × MayAcknowledge (object_at at store.old) number }
     ensures { store.new ≡ acknowledged_at at number store.old }
 {
-    let used = record::used_at(store, at);
+    let used = StoredObject::at(store, at).used();
     let a = at + record::DATA;
     let e = record::data_end(store, at);
     let left = queue::acknowledge(&mut store[a..e], used, number);

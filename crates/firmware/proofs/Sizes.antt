@@ -1,7 +1,7 @@
 -- Sizes that fit what is lent, and a list of commands where they do.
-use Prim.Native.Nat.{ℕ, suc, ◌+◌, ◌-◌, ◌≤◌, ◌<◌}
+use Prim.Native.Nat.{ℕ, zero, suc, ◌+◌, ◌-◌, ◌≤◌, ◌<◌}
 use mathlib.Core.Path.{◌≡◌, refl, sym, ap, ◌∙◌}
-use mathlib.Core.Bool.{Bool, true, false, ◌&&◌, not}
+use mathlib.Core.Bool.{Bool, true, false, ◌&&◌, not, and-false}
 use mathlib.Core.List.{List, [], ◌∷◌, map, flat_map}
 use native.Mathlib.Nat.{add-zero, add-sub_cancel_left}
 use native.Mathlib.Omega.{arith}
@@ -25,14 +25,18 @@ module _ (sizes : List ℕ) (count i left : ℕ) (w : Bool) (among : i < count) 
       let one : count - i ≡ suc (count - (i + 1)) = omega arith in
       rw (one, length-drop, get_or-drop i sizes 0 0, add-zero, drop-drop) at told
 
-  pub missing : length sizes ≤ i → false ≡ w
-  missing h = rw (next, le-ltb 0 (length sizes - i) (omega arith))
-
   pub too_large : i < length sizes → left < get_or sizes i 0 → false ≡ w
   too_large h l = rw (next, lt-ltb 0 (length sizes - i) (omega arith), lt-leb (get_or sizes i 0) left l)
 
   pub one_fits : i < length sizes → get_or sizes i 0 ≤ left → w ≡ all_fit (count - (i + 1)) (drop (i + 1) sizes) (left - get_or sizes i 0)
   one_fits h l = next ∙ rw (lt-ltb 0 (length sizes - i) (omega arith), le-leb (get_or sizes i 0) left l) refl
+
+-- fewer sizes than asked do not fit
+pub too_few : (count : ℕ) (sizes : List ℕ) (left : ℕ) → length sizes < count → false ≡ all_fit count sizes left
+unfolding all_fit
+too_few zero sizes left h = absurd (omega arith)
+too_few (suc count) [] left h = rw (le-ltb 0 0 (omega arith))
+too_few (suc count) (x ∷ sizes) left h = rw (lt-ltb 0 (length (x ∷ sizes)) (omega arith), ← too_few count sizes (left - x) (omega arith)) (sym (and-false _))
 
 -- none is left to look at
 pub all_seen : (sizes : List ℕ) (count i left : ℕ) (w : Bool) → count ≤ i → w ≡ all_fit (count - i) (drop i sizes) left → true ≡ w

@@ -1,7 +1,7 @@
 // What firmware links: C names over lent buffers and a session of four bytes. include/element.h states each promise in plain words.
 #![tactic(auto)]
 
-ghost use Rattle.std.specs.Prelude.{◌≡◌};
+ghost use Rattle.std.specs.Prelude.{◌≡◌, ◌&&◌};
 ghost use Rattle.rules.specs.Basic.{is_some};
 ghost use Rattle.rules.specs.Layout.{unpack};
 ghost use Rattle.rules.specs.Factory.{fresh_session, factory_outcome, factory_made};
@@ -19,7 +19,7 @@ use rules::Session;
 
 // The session as a host in C keeps it. opened is 0 for closed; any other byte is open.
 #[repr(C)]
-#[derive(Clone, Copy)]
+#[derive(Clone, Copy, Debug, PartialEq, Eq)]
 pub struct HostSession {
     pub opened: u8,
     pub lcsg: u8,
@@ -27,36 +27,33 @@ pub struct HostSession {
     pub error: u8,
 }
 
-// The outcome number and the host's session after a call.
-#[derive(Clone, Copy)]
-pub struct HostAnswer {
-    pub outcome: u8,
-    pub session: HostSession,
-}
+impl From<HostSession> for Session {
+    ghost from_gives = { λ bytes session. session ≡ session_of bytes };
 
-fn session_of(bytes: HostSession) -> Session
-    ensures { result ≡ session_of bytes }
-{
-    Session {
-        opened: bytes.opened != 0,
-        lcsg: bytes.lcsg,
-        lcsa: bytes.lcsa,
-        error: bytes.error,
+    #[tactic(auto, unfolding(crate::specs::Host::session_of))]
+    fn from(bytes: HostSession) -> Session {
+        Session {
+            opened: bytes.opened != 0,
+            lcsg: bytes.lcsg,
+            lcsa: bytes.lcsa,
+            error: bytes.error,
+        }
     }
 }
 
+// The byte of an open application stays as it is.
+#[tactic(auto, unfolding(crate::specs::Host::opened_byte))]
 fn opened_byte(was: u8, opened: bool) -> u8
     ensures { result ≡ opened_byte was opened }
 {
     if opened {
-        if was == 0 {
-            return 1;
-        }
-        return was;
+        was.max(1)
+    } else {
+        0
     }
-    0
 }
 
+#[tactic(auto, unfolding(crate::specs::Host::bytes_of))]
 fn bytes_of(was: HostSession, session: Session) -> HostSession
     ensures { result ≡ bytes_of was session }
 {
@@ -65,23 +62,6 @@ fn bytes_of(was: HostSession, session: Session) -> HostSession
         lcsg: session.lcsg,
         lcsa: session.lcsa,
         error: session.error,
-    }
-}
-
-// One command, with the host's session by value.
-fn execute_for_host(
-    command: &[u8],
-    store: &mut [u8],
-    session: HostSession,
-    room: &mut [u8],
-) -> HostAnswer
-    ensures { HostExecutes command.now room.old store.old session
-        (left result.outcome room.new store.new result.session) }
-{
-    let answer = element::execute(command, store, session_of(session), room);
-    HostAnswer {
-        outcome: answer.outcome,
-        session: bytes_of(session, answer.session),
     }
 }
 
@@ -97,8 +77,8 @@ pub extern "C" fn element_execute(
         (left result room.new store.new session.new) }
 {
     let was = *session;
-    let answer = execute_for_host(command, store, was, room);
-    *session = answer.session;
+    let answer = element::execute(command, store, was.into(), room);
+    *session = bytes_of(was, answer.session);
     answer.outcome
 }
 
@@ -106,61 +86,27 @@ pub extern "C" fn element_execute(
 fn all_fit(sizes: &[usize], count: usize, total: usize) -> bool
     ensures { result ≡ all_fit count sizes.now total }
 {
+    if sizes.len() < count {
+        return false;
+    }
     let mut left = total;
-    let mut i: usize = 0;
-    while i < count {
-        if sizes.len() <= i {
+    for size in &sizes[..count] {
+        if left < *size {
             return false;
         }
-        let size = sizes[i];
-        if left < size {
-            return false;
-        }
-        left = left - size;
-        i = i + 1;
+        left -= *size;
     }
     true
 }
 
-// A list of commands, with the host's session by value; outcome 2 where a size is missing or too large.
-fn run_for_host(
-    commands: &[u8],
-    sizes: &[usize],
-    store: &mut [u8],
-    session: HostSession,
-    rooms: &mut [u8],
-    spaces: &[usize],
-    outcomes: &mut [u8],
-) -> HostAnswer
-    ensures { HostRun commands sizes store session rooms spaces outcomes result.outcome result.session }
+// Whether the sizes of so many commands and of their rooms fit what is lent.
+fn fit(sizes: &[usize], commands: usize, spaces: &[usize], rooms: usize, count: usize) -> bool
+    ensures { result ≡ (all_fit count sizes.now commands && all_fit count spaces.now rooms) }
 {
-    let count = outcomes.len();
-    let whole = primitives::and(
-        all_fit(sizes, count, commands.len()),
-        all_fit(spaces, count, rooms.len()),
-    );
-    if !whole {
-        return HostAnswer {
-            outcome: 2,
-            session,
-        };
-    }
-    let after = runs::run(
-        commands,
-        sizes,
-        store,
-        session_of(session),
-        rooms,
-        spaces,
-        outcomes,
-    );
-    HostAnswer {
-        outcome: 0,
-        session: bytes_of(session, after),
-    }
+    all_fit(sizes, count, commands) && all_fit(spaces, count, rooms)
 }
 
-// A list of commands, with the session where the host keeps it.
+// A list of commands, with the session where the host keeps it; outcome 2 where a size is missing or too large.
 #[unsafe(no_mangle)]
 pub extern "C" fn element_run(
     commands: &[u8],
@@ -174,9 +120,12 @@ pub extern "C" fn element_run(
     ensures { HostRun commands sizes store session.old rooms spaces outcomes result session.new }
 {
     let was = *session;
-    let answer = run_for_host(commands, sizes, store, was, rooms, spaces, outcomes);
-    *session = answer.session;
-    answer.outcome
+    if !fit(sizes, commands.len(), spaces, rooms.len(), outcomes.len()) {
+        return 2;
+    }
+    let after = runs::run(commands, sizes, store, was.into(), rooms, spaces, outcomes);
+    *session = bytes_of(was, after);
+    0
 }
 
 #[unsafe(no_mangle)]

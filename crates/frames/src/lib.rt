@@ -147,23 +147,14 @@ pub fn judge(bytes: &[u8]) -> Step
     }
 }
 
-// Puts a number in two bytes, least significant first.
-fn put_little_endian(room: &mut [u8], at: usize, n: u16)
-    requires { at + 2 ≤ length room.old }
-    ensures { room.new ≡ over at (little_endian n) room.old }
-{
-    let bytes = [(n % 256) as u8, (n / 256) as u8];
-    primitives::put(room, at, &bytes);
-}
-
 // Writes a frame of n bytes up to its check.
 #[tactic(auto, using(primitives::proofs::Over::over_over), unfolding(crate::specs::Frames::unchecked))]
 fn write_unchecked(kind: Kind, body: &[u8], room: &mut [u8], n: u16)
     requires { (length body.now + 4 ≤ length room.old) × (n ≡ length body.now + around) }
     ensures { room.new ≡ over 0 (unchecked kind body.now) room.old }
 {
-    put_little_endian(room, 0, n);
-    put_little_endian(room, 2, kind.into());
+    primitives::put_little_endian(room, 0, n);
+    primitives::put_little_endian(room, 2, kind.into());
     primitives::put(room, HEAD, body);
 }
 
@@ -174,7 +165,7 @@ fn write_check(room: &mut [u8], from: usize, end: usize)
         ≡ over end (little_endian (remainder (take (end - from) (drop from room.old)))) room.old }
 {
     let x = remainder::remainder(&room[from..end]);
-    put_little_endian(room, end, x);
+    primitives::put_little_endian(room, end, x);
 }
 
 // Writes a frame at the front of the room.

@@ -1,7 +1,7 @@
-// Numbers in two bytes and in four, copies and zeros in lent slices, and bools joined.
+// Numbers in two bytes and in four, copies and zeros in lent slices.
 #![tactic(auto)]
 
-ghost use Rattle.std.specs.Prelude.{◌≡◌, ◌&&◌, ◌||◌, ◌+◌, ◌<◌, ◌≤◌, min, max, length};
+ghost use Rattle.std.specs.Prelude.{◌≡◌, ◌+◌, ◌<◌, ◌≤◌, length};
 ghost use Rattle.rules.specs.Basic.{little_endian, little_endian_at, big_endian, big_endian_at, big_endian_4, big_endian_4_at, little_endian_4, little_endian_4_at, zeros};
 ghost use Rattle.primitives.specs.Bytes.{over, all_zero};
 
@@ -38,24 +38,6 @@ pub fn little_endian_4_at(s: &[u8], at: usize) -> u32
     ensures { result ≡ little_endian_4_at at s.now }
 {
     u32::from_le_bytes([s[at], s[at + 1], s[at + 2], s[at + 3]])
-}
-
-pub fn max(a: usize, b: usize) -> usize
-    ensures { result ≡ max a b }
-{
-    if a < b {
-        return b;
-    }
-    a
-}
-
-pub fn min(a: usize, b: usize) -> usize
-    ensures { result ≡ min a b }
-{
-    if a < b {
-        return a;
-    }
-    b
 }
 
 // Puts src at a place of dst.
@@ -124,24 +106,6 @@ pub fn put_alone(dst: &mut [u8], at: usize, src: &[u8])
 {
     clear(dst);
     put(dst, at, src);
-}
-
-pub fn and(a: bool, b: bool) -> bool
-    ensures { result ≡ (a && b) }
-{
-    if a {
-        return b;
-    }
-    false
-}
-
-pub fn or(a: bool, b: bool) -> bool
-    ensures { result ≡ (a || b) }
-{
-    if a {
-        return true;
-    }
-    b
 }
 
 // An or of all bytes with no early return, so that the loop is vectorised.

@@ -4,14 +4,24 @@
 ghost use Rattle.std.specs.Prelude.{◌≡◌, true};
 ghost use Rattle.rules.specs.Basic.{is_some};
 ghost use Rattle.rules.specs.Layout.{unpack, found};
+ghost use Rattle.record.specs.Places.{object_at, Stored};
 ghost use Rattle.store.specs.Way.{way, front, leads};
 
+use record::StoredObject;
 use rules::ObjectNumber;
 
 // Limits of a store: its bytes, its records.
 const BYTES: usize = 16384;
 
 const RECORDS: usize = 32;
+
+// The number of the object whose record stands at a place.
+fn number_at(store: &[u8], at: usize) -> u16
+    requires { Stored at store.now }
+    ensures { result ≡ (object_at at store.now).number }
+{
+    StoredObject::at(store, at).number().0
+}
 
 // Whether these bytes are a store: `least` is the least number that the next record may have.
 pub fn check_store(store: &[u8]) -> bool
@@ -35,7 +45,7 @@ pub fn check_store(store: &[u8]) -> bool
         if !record::record_ok(&store[at..end]) {
             return false;
         }
-        let n = record::number_at(store, at).0 as usize;
+        let n = number_at(store, at) as usize;
         if n < least {
             return false;
         }
@@ -57,7 +67,7 @@ pub fn find_record(store: &[u8], number: ObjectNumber) -> Option<usize>
     let mut at: usize = 0;
     while at < store.len() {
         let next = record::data_end(store, at);
-        let here = record::number_at(store, at).0;
+        let here = number_at(store, at);
         if number.0 < here {
             return None;
         }

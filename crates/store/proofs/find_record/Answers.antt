@@ -17,10 +17,10 @@ pub returns-then-number-here : goal.returns-then-number-here
 returns-then-number-here c = search passed
 
 pub returns-then-number-here-2 : goal.returns-then-number-here-2
-returns-then-number-here-2 c = let l : c.args.number.0 ≤ c.number_at-here.result.0 = omega arith in search found_here
+returns-then-number-here-2 c = let l : c.args.number.0 ≤ c.number_at-here.result = omega arith in search found_here
 
 pub loop-at-preserved : goal.loop-at-preserved
-loop-at-preserved c = let l : c.number_at-here.result.0 < c.args.number.0 = omega arith in search go_on
+loop-at-preserved c = let l : c.number_at-here.result < c.args.number.0 = omega arith in search go_on
 
 pub returns : goal.returns
 returns c = search search_end
