@@ -72,7 +72,8 @@ fn filled(part: &[u8], n: usize) -> bool
     expression::well_formed(&part[1..n + 1]) && zero_from(part, n + 1)
 }
 
-// Whether it holds one byte, with zeros behind: here and for one condition they are of a fixed length, and need no loop.
+// Whether it holds one byte, with zeros behind: here and for one condition they are of a fixed length, and need no loop. As one function
+// with a const parameter, the two cost the C files speed.
 #[tactic(auto, using(crate::proofs::Slots::filled_one))]
 fn filled_by_one(part: &[u8]) -> bool
     requires { length part.now ≡ slot_size }
