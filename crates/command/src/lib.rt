@@ -60,7 +60,6 @@ pub fn row_of_command(command: &[u8]) -> Row
 }
 
 #[tactic(auto, unfolding(rules::specs::Command::object_number))]
-
 pub fn object_number(command: &[u8]) -> ObjectNumber
     requires { 6 ≤ length command.now }
     ensures { result.0 ≡ object_number command.now }
@@ -69,7 +68,6 @@ pub fn object_number(command: &[u8]) -> ObjectNumber
 }
 
 #[tactic(auto, unfolding(rules::specs::Command::offset))]
-
 pub fn offset(command: &[u8]) -> Offset
     requires { 8 ≤ length command.now }
     ensures { result.0 ≡ offset command.now }
@@ -78,7 +76,6 @@ pub fn offset(command: &[u8]) -> Offset
 }
 
 #[tactic(auto, unfolding(rules::specs::Command::asked_length))]
-
 pub fn asked_length(command: &[u8]) -> Length
     requires { 10 ≤ length command.now }
     ensures { result.0 ≡ asked_length command.now }
@@ -87,7 +84,6 @@ pub fn asked_length(command: &[u8]) -> Length
 }
 
 #[tactic(auto, unfolding(rules::specs::Command::sent_data))]
-
 pub fn sent_data(command: &[u8]) -> &[u8]
     requires { 8 ≤ length command.now }
     ensures { result.now ≡ sent_data command.now }
@@ -96,7 +92,6 @@ pub fn sent_data(command: &[u8]) -> &[u8]
 }
 
 #[tactic(auto, unfolding(rules::specs::Command::step_byte))]
-
 pub fn step_byte(command: &[u8]) -> u8
     requires { 9 ≤ length command.now }
     ensures { result ≡ step_byte command.now }
@@ -105,7 +100,6 @@ pub fn step_byte(command: &[u8]) -> u8
 }
 
 #[tactic(auto, unfolding(rules::specs::Command::sent_metadata))]
-
 pub fn sent_metadata(command: &[u8]) -> &[u8]
     requires { 6 ≤ length command.now }
     ensures { result.now ≡ sent_metadata command.now }
@@ -114,7 +108,6 @@ pub fn sent_metadata(command: &[u8]) -> &[u8]
 }
 
 #[tactic(auto, unfolding(rules::specs::Command::sent_body))]
-
 pub fn sent_body(command: &[u8]) -> &[u8]
     requires { 6 ≤ length command.now }
     ensures { result.now ≡ sent_body command.now }
@@ -123,7 +116,6 @@ pub fn sent_body(command: &[u8]) -> &[u8]
 }
 
 #[tactic(auto, unfolding(rules::specs::Command::sent_number))]
-
 pub fn sent_number(command: &[u8]) -> u32
     requires { 10 ≤ length command.now }
     ensures { result ≡ sent_number command.now }
@@ -227,7 +219,6 @@ fn row_sizes(asked: Row) -> Sizes
 }
 
 #[tactic(auto, unfolding(rules::specs::Command::size_right))]
-
 fn size_right(sizes: Sizes, n: usize) -> bool
     ensures { result ≡ size_right sizes n }
 {

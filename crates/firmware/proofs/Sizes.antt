@@ -1,13 +1,14 @@
 -- Sizes that fit what is lent, and a list of commands where they do.
 use Prim.Native.Nat.{ℕ, zero, suc, ◌+◌, ◌-◌, ◌≤◌, ◌<◌}
 use mathlib.Core.Path.{◌≡◌, refl, sym, ap, ◌∙◌}
-use mathlib.Core.Bool.{Bool, true, false, ◌&&◌, not, and-false}
+use mathlib.Core.Bool.{Bool, true, false, ◌&&◌, and-false}
 use mathlib.Core.List.{List, [], ◌∷◌, map, flat_map}
 use native.Mathlib.Nat.{add-zero, add-sub_cancel_left}
 use native.Mathlib.Omega.{arith}
-use lib.ListN.{length, get_or, drop, length-drop, length-append, length-replicate}
+use Rattle.std.proofs.lemmas.List.{get_or-take}
+use lib.ListN.{length, get_or, take, drop, length-drop, length-append, length-replicate}
 use lib.Seq.{drop-drop, get_or-drop}
-use borrow.Author.Tests.{lt-ltb, le-ltb, le-leb, lt-leb, not-true, not-false}
+use borrow.Author.Tests.{lt-ltb, le-ltb, le-leb, lt-leb}
 use lib.Dec.{ltb, leb}
 use Rattle.rules.specs.declared.Session.{Session}
 use Rattle.rules.specs.Run.{Turn, Kept}
@@ -25,11 +26,16 @@ module _ (sizes : List ℕ) (count i left : ℕ) (w : Bool) (among : i < count) 
       let one : count - i ≡ suc (count - (i + 1)) = omega arith in
       rw (one, length-drop, get_or-drop i sizes 0 0, add-zero, drop-drop) at told
 
-  pub too_large : i < length sizes → left < get_or sizes i 0 → false ≡ w
-  too_large h l = rw (next, lt-ltb 0 (length sizes - i) (omega arith), lt-leb (get_or sizes i 0) left l)
+  -- the sizes asked for are the first of those lent
+  size_is : get_or (take count sizes) i 0 ≡ get_or sizes i 0
+  size_is = get_or-take count sizes i 0 among
 
-  pub one_fits : i < length sizes → get_or sizes i 0 ≤ left → w ≡ all_fit (count - (i + 1)) (drop (i + 1) sizes) (left - get_or sizes i 0)
-  one_fits h l = next ∙ rw (lt-ltb 0 (length sizes - i) (omega arith), le-leb (get_or sizes i 0) left l) refl
+  pub too_large : i < length sizes → left < get_or (take count sizes) i 0 → false ≡ w
+  too_large h l = rw (next, lt-ltb 0 (length sizes - i) (omega arith), lt-leb (get_or sizes i 0) left (omega (arith, size_is)))
+
+  pub one_fits : i < length sizes → get_or (take count sizes) i 0 ≤ left →
+      w ≡ all_fit (count - (i + 1)) (drop (i + 1) sizes) (left - get_or (take count sizes) i 0)
+  one_fits h l = rw size_is (next ∙ rw (lt-ltb 0 (length sizes - i) (omega arith), le-leb (get_or sizes i 0) left (omega (arith, size_is))) refl)
 
 -- fewer sizes than asked do not fit
 pub too_few : (count : ℕ) (sizes : List ℕ) (left : ℕ) → length sizes < count → false ≡ all_fit count sizes left
@@ -52,16 +58,16 @@ module _ (was : HostSession) (commands sizes rooms spaces outcomes store : List 
   unfolding laid_well
   well s = both ∙ rw (ex, ey) refl
 
-  pub not_laid : (s : Session) → not whole ≡ true → HostRuns (lent commands sizes rooms spaces outcomes store s) was (list_left 2 rooms outcomes store was)
+  pub not_laid : (s : Session) → whole ≡ false → HostRuns (lent commands sizes rooms spaces outcomes store s) was (list_left 2 rooms outcomes store was)
   unfolding list_in_bytes
-  not_laid s n = rw (sym (well s) ∙ not-true whole n) refl
+  not_laid s n = rw (sym (well s) ∙ n) refl
 
-  pub ran : (s after : Session) (b : HostSession) (rooms' outcomes' store' : List ℕ) → not whole ≡ false → s ≡ session_of was
+  pub ran : (s after : Session) (b : HostSession) (rooms' outcomes' store' : List ℕ) → whole ≡ true → s ≡ session_of was
       → IsRun (library_run (lent commands sizes rooms spaces outcomes store s) (returned rooms' outcomes' store' after)) → b ≡ bytes_of was after
       → HostRuns (lent commands sizes rooms spaces outcomes store (session_of was)) was (list_left 0 rooms' outcomes' store' b)
   unfolding list_in_bytes
   ran s after b rooms' outcomes' store' n e f g =
-      rw (sym (well (session_of was)) ∙ not-false whole n, g, ← e)
+      rw (sym (well (session_of was)) ∙ n, g, ← e)
       (ap (λ (a : Returned). list_left 0 a.rooms a.outcomes a.store (bytes_of was a.session)) f)
 
 -- every list of commands can be laid out so that its sizes fit

@@ -46,11 +46,7 @@ impl From<HostSession> for Session {
 fn opened_byte(was: u8, opened: bool) -> u8
     ensures { result ≡ opened_byte was opened }
 {
-    if opened {
-        was.max(1)
-    } else {
-        0
-    }
+    if opened { was.max(1) } else { 0 }
 }
 
 #[tactic(auto, unfolding(crate::specs::Host::bytes_of))]
