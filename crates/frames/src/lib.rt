@@ -188,6 +188,7 @@ pub fn write_frame(kind: Kind, body: &[u8], room: &mut [u8]) -> Result<FrameLeng
 
 // `write_frame` for a host in C: 0 where the frame is written, else the refusal's number.
 #[tactic(auto, unfolding(crate::specs::Frames::written_number))]
+#[inline(never)]
 pub fn write_for_host(kind: Kind, body: &[u8], room: &mut [u8]) -> u8
     ensures { HostWrites kind body.now room.old result room.new }
 {

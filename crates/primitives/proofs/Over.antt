@@ -1,12 +1,24 @@
 -- Laws of copies and of bytes put at a place.
-use Prim.Native.Nat.{ℕ, ◌+◌, ◌≤◌}
+use Prim.Native.Nat.{ℕ, ◌+◌, ◌<◌, ◌≤◌}
 use mathlib.Core.Path.{◌≡◌, sym, ap, ◌∙◌}
 use mathlib.Core.List.{List, ◌++◌, append_assoc}
-use lib.ListN.{length, take, drop, length-drop, length-take, length-append, take-append-drop}
-use lib.Seq.{drop-drop, take_at, drop_at}
+use lib.ListN.{length, get_or, take, drop, set, length-drop, length-take, length-append, take-append-drop}
+use lib.Seq.{drop-drop, take-length, take_at, drop_at, paste, paste-suc}
 use native.Mathlib.Omega.{arith}
 use native.Mathlib.Nat.{add_assoc}
+use native.Mathlib.Numerals.{add-one}
 use Rattle.primitives.specs.Bytes.{over}
+
+-- `put`: the first i bytes
+pub put_turn : (d₀ d s : List ℕ) (at i : ℕ) → d ≡ paste d₀ at s i → i < length s → at + length s ≤ length d₀ →
+    set d (at + i) (get_or s i 0) ≡ paste d₀ at s (i + 1)
+put_turn d₀ d s at i inv h k = rw (inv, add-one) (paste-suc d₀ at s i 0 (omega arith) h)
+
+pub put_end : (d₀ d s : List ℕ) (at i : ℕ) → d ≡ paste d₀ at s i → i ≤ length s → length s ≤ i → d ≡ over at s d₀
+unfolding over
+put_end d₀ d s at i inv h k =
+    let e : i ≡ length s = omega arith in
+    rw (inv, e, take-length) (append_assoc (take at d₀) _ _)
 
 -- bytes over a part -----------------------------------------------------------------------------------------------------
 

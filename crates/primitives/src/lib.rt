@@ -40,13 +40,14 @@ pub fn little_endian_4_at(s: &[u8], at: usize) -> u32
     u32::from_le_bytes([s[at], s[at + 1], s[at + 2], s[at + 3]])
 }
 
-// Puts src at a place of dst.
-#[tactic(auto, unfolding(crate::specs::Bytes::over))]
+// Puts src at a place of dst: a loop, since the library's copy calls memmove, and firmware need not have it.
 pub fn put(dst: &mut [u8], at: usize, src: &[u8])
     requires { at + length src.now ≤ length dst.old }
     ensures { dst.new ≡ over at src.now dst.old }
 {
-    dst[at..at + src.len()].copy_from_slice(src);
+    for i in 0..src.len() {
+        dst[at + i] = src[i];
+    }
 }
 
 // Puts a number in two bytes, most significant first.

@@ -6,7 +6,7 @@ use mathlib.Core.List.{List, ◌++◌, append_assoc}
 use mathlib.Core.Path.{◌≡◌, refl, sym, ap, ◌∙◌}
 use native.Mathlib.Omega.{arith}
 use lib.ListN.{length, take, drop, length-append, length-drop, length-replicate, take-append-drop, replicate-append-replicate}
-use lib.Seq.{paste, drop-append-le, length-take-le, take_at, take-take}
+use lib.Seq.{drop-append-le, length-take-le, take_at, take-take}
 use Rattle.rules.specs.Basic.{zeros, little_endian_4, little_endian_4_at}
 use Rattle.primitives.specs.Bytes.{over}
 use Rattle.primitives.proofs.Over.{over_over}
@@ -15,7 +15,6 @@ use Rattle.laws.proofs.Queues.{queue_size, four_bytes, fare_length, queue_length
 use Rattle.laws.proofs.QueueChanges.{appended_bytes}
 use Rattle.queue.specs.Ends.{fare_end}
 use Rattle.queue.specs.Held.{Holds, held}
-use Rattle.queue.proofs.Moves.{moved}
 use Rattle.queue.proofs.Ends.{absent_by, end_behind, end_is, acknowledged_bytes}
 
 -- a number in the place of the first one
@@ -89,11 +88,10 @@ module _ (u : ℕ) (b : List ℕ) (h : Holds u b) where
     pub kept_is : queue_head + (u - e) ≡ length (queue_bytes (acknowledged n q))
     kept_is = omega (arith, end_is n q e f, used_is, queue_length (acknowledged n q))
 
-    pub drop_by : (p1 p2 : List ℕ) → queue_head ≤ e → p1 ≡ paste b queue_head (drop e b) (u - e) →
+    pub drop_by : (p1 p2 : List ℕ) → queue_head ≤ e → p1 ≡ over queue_head (take (u - e) (drop e b)) b →
         p2 ≡ over (queue_head + (u - e)) (zeros (u - (queue_head + (u - e)))) p1 →
         p2 ≡ queue_bytes (acknowledged n q) ++ zeros (length b - (queue_head + (u - e)))
-    drop_by p1 p2 l moving e2 =
-        let e1 : p1 ≡ over queue_head (take (u - e) (drop e b)) b = moving ∙ moved b queue_head e (u - e) (omega (arith, h.inside)) in
+    drop_by p1 p2 l e1 e2 =
         let d = take (u - e) (drop e b) in
         let kept = queue_head + (u - e) in
         let z = zeros (u - kept) in

@@ -136,6 +136,16 @@ pub fn append(part: &mut [u8], used: Length, body: &[u8]) -> Length
     Length(at + BODY + body.len())
 }
 
+// Moves n bytes down to a place before them, the first first: a loop, since the library's copy calls memmove.
+fn move_down(dst: &mut [u8], to: usize, from: usize, n: usize)
+    requires { (to ≤ from) × (from + n ≤ length dst.old) }
+    ensures { dst.new ≡ over to (take n (drop from dst.old)) dst.old }
+{
+    for i in 0..n {
+        dst[to + i] = dst[from + i];
+    }
+}
+
 // Drops the fare that ends at `end` and all before it: the others move to the front, zeros take the place that they leave. The answer is what is used then.
 fn drop_front(part: &mut [u8], used: Length, end: Offset) -> Length
     requires { Holds used.0 part.old × (queue_head ≤ end.0) × (end.0 ≤ used.0) }
@@ -143,8 +153,9 @@ fn drop_front(part: &mut [u8], used: Length, end: Offset) -> Length
         → (result.0 ≡ length (queue_bytes (acknowledged n (held used.0 part.old))))
         × (part.new ≡ queue_bytes (acknowledged n (held used.0 part.old)) ++ zeros (length part.old - result.0)) }
 {
-    let kept = FARES + (used.0 - end.0);
-    part.copy_within(end.0..used.0, FARES);
+    let left = used.0 - end.0;
+    let kept = FARES + left;
+    move_down(part, FARES, end.0, left);
     primitives::put_zeros(part, kept, used.0 - kept);
     Length(kept)
 }

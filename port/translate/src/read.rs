@@ -130,7 +130,7 @@ pub fn declare(types: &Json, impls: &Json, known: &RefCell<Declared>) -> Answer<
 
 /// The name of a declared type. What is shared and written at once is not known; to let a value go is a call of MIR.
 fn declared_type(found: &Json) -> Answer<&str> {
-    let [name, _, _, types, numbers, _, owns, is_cell, _, is_tuple] = found.fields(DECLARED)?;
+    let [name, _, _, types, numbers, _, owns, is_cell, _, is_tuple] = found.fields_and(DECLARED, &["view"])?;
     let is_plain =
         types.number().is_ok() && numbers.list().is_ok() && *is_cell == Json::Bool(false);
     match is_plain && owns.bool().is_ok() && is_tuple.bool().is_ok() {
@@ -140,8 +140,8 @@ fn declared_type(found: &Json) -> Answer<&str> {
 }
 
 fn is_same_type(one: &Json, other: &Json) -> Answer<bool> {
-    let [_, _, _, types, numbers, _, _, _, shape, _] = one.fields(DECLARED)?;
-    let [_, _, _, other_types, other_numbers, _, _, _, other_shape, _] = other.fields(DECLARED)?;
+    let [_, _, _, types, numbers, _, _, _, shape, _] = one.fields_and(DECLARED, &["view"])?;
+    let [_, _, _, other_types, other_numbers, _, _, _, other_shape, _] = other.fields_and(DECLARED, &["view"])?;
     Ok((types, numbers, shape) == (other_types, other_numbers, other_shape))
 }
 
@@ -238,7 +238,7 @@ impl Forms<'_> {
     /// Takes note of what the declared types are made of that take no types.
     pub fn plain_types(&self, declared: &Json) -> Answer<()> {
         for found in declared.list()? {
-            let [name, _, _, types, _, _, _, _, _, _] = found.fields(DECLARED)?;
+            let [name, _, _, types, _, _, _, _, _, _] = found.fields_and(DECLARED, &["view"])?;
             if count(types)? == 0 {
                 self.named(name.text()?, Vec::new())?;
             }
@@ -247,7 +247,7 @@ impl Forms<'_> {
     }
 
     fn made_of(&self, named: &Named, declared: &Json) -> Answer<Shape> {
-        let [_, _, _, types, _, _, _, _, shape, _] = declared.fields(DECLARED)?;
+        let [_, _, _, types, _, _, _, _, shape, _] = declared.fields_and(DECLARED, &["view"])?;
         if count(types)? != named.types.len() {
             return Err(format!("{named} with other types than it takes"));
         }
@@ -526,7 +526,7 @@ impl Forms<'_> {
         let declared = self.known.borrow().types.get(&named.name).cloned();
         let mut types = named.types.clone();
         if let Some(declared) = declared {
-            let [_, _, _, _, _, _, _, _, shape, _] = declared.fields(DECLARED)?;
+            let [_, _, _, _, _, _, _, _, shape, _] = declared.fields_and(DECLARED, &["view"])?;
             let fields = match (shape.form(), variant) {
                 (("Fields", fields), None) => fields,
                 (("Variants", variants), Some(chosen)) if chosen < variants.len() => {

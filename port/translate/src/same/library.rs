@@ -187,7 +187,7 @@ fn kind(found: &Json) -> Read {
 
 /// A declared type: its name, what it takes, and its shape. The rest is not in the terms.
 fn declared(sort: Sort, found: &Json) -> Read {
-    let [name, _, _, types, numbers, _, _, _, shape, _] = found.fields(DECLARED)?;
+    let [name, _, _, types, numbers, _, _, _, shape, _] = found.fields_and(DECLARED, &["view"])?;
     let mut places = Vec::new();
     for number in numbers.list()? {
         match number.list()? {
