@@ -18,49 +18,42 @@ typedef uint64_t usize;
 
 typedef char dock_frame_has_1563[sizeof(dock_frame) == 1563 ? 1 : -1];
 
-typedef struct slice_mut_u8 {
-    uint8_t *at;
-    usize length;
-} slice_mut_u8;
+typedef struct array_u8_2 {
+    uint8_t at[2];
+} array_u8_2;
 
-typedef struct slice_u8 {
-    const uint8_t *at;
-    usize length;
-} slice_u8;
-
-typedef struct array_u16_256 {
-    uint16_t at[256];
-} array_u16_256;
+/* frames::FrameLength */
+typedef struct frames__FrameLength {
+    uint16_t f0;
+} frames__FrameLength;
 
 /* frames::Fault */
 typedef struct frames__Fault {
     uint8_t tag;
 } frames__Fault;
 
+/* dock::Stream */
+typedef struct dock__Stream {
+    uint8_t tag;
+    union {
+        struct {
+            frames__FrameLength f1;
+        } v0;
+        struct {
+            frames__Fault f1;
+        } v1;
+    } as;
+} dock__Stream;
+
 /* frames::Kind */
 typedef struct frames__Kind {
     uint8_t tag;
 } frames__Kind;
 
-/* frames::NamedKind */
-typedef struct frames__NamedKind {
-    uint8_t tag;
-    union {
-        struct {
-            frames__Kind f1;
-        } v0;
-    } as;
-} frames__NamedKind;
-
 /* frames::BodyLength */
 typedef struct frames__BodyLength {
     uint16_t f0;
 } frames__BodyLength;
-
-/* frames::FrameLength */
-typedef struct frames__FrameLength {
-    uint16_t f0;
-} frames__FrameLength;
 
 /* frames::Step */
 typedef struct frames__Step {
@@ -79,17 +72,40 @@ typedef struct frames__Step {
     } as;
 } frames__Step;
 
-typedef struct array_u8_2 {
-    uint8_t at[2];
-} array_u8_2;
+/* dock::Fed */
+typedef struct dock__Fed {
+    dock__Stream f0;
+    frames__Step f1;
+    usize f2;
+} dock__Fed;
 
 /* frames::WriteRefusal */
 typedef struct frames__WriteRefusal {
     uint8_t tag;
 } frames__WriteRefusal;
 
-/* frames::Written */
-typedef struct frames__Written {
+typedef struct slice_u8 {
+    const uint8_t *at;
+    usize length;
+} slice_u8;
+
+typedef struct slice_mut_u8 {
+    uint8_t *at;
+    usize length;
+} slice_mut_u8;
+
+/* core::option::Option<frames::Kind> */
+typedef struct core__option__Option__frames__Kind {
+    uint8_t tag;
+    union {
+        struct {
+            frames__Kind f1;
+        } v1;
+    } as;
+} core__option__Option__frames__Kind;
+
+/* core::result::Result<frames::FrameLength, frames::WriteRefusal> */
+typedef struct core__result__Result__frames__FrameLength__frames__WriteRefusal {
     uint8_t tag;
     union {
         struct {
@@ -99,149 +115,183 @@ typedef struct frames__Written {
             frames__WriteRefusal f1;
         } v1;
     } as;
-} frames__Written;
+} core__result__Result__frames__FrameLength__frames__WriteRefusal;
 
-/* dock::Stream */
-typedef struct dock__Stream {
-    uint8_t tag;
-    union {
-        struct {
-            frames__FrameLength f1;
-        } v0;
-        struct {
-            frames__Fault f1;
-        } v1;
-    } as;
-} dock__Stream;
-
-/* dock::Part */
-typedef struct dock__Part {
-    frames__Step f0;
-    usize f1;
-} dock__Part;
-
-/* dock::Fed */
-typedef struct dock__Fed {
-    dock__Stream f0;
-    frames__Step f1;
-    usize f2;
-} dock__Fed;
-
-static bool primitives__and(bool v1, bool v2);
-static void primitives__copy_in(slice_mut_u8 v1, slice_u8 v2);
+static uint16_t core__int__u16__from_le_bytes(array_u8_2 v1);
+static dock_fed core__convert__AnyInto__into__dock__Fed__dock__HostFed(dock__Fed v1);
+static dock_stream core__convert__AnyInto__into__dock__Stream__dock__HostStream(dock__Stream v1);
+static uint16_t core__convert__AnyInto__into__frames__Fault__u16(frames__Fault v1);
+static uint16_t core__convert__AnyInto__into__frames__Kind__u16(frames__Kind v1);
+static uint8_t core__convert__AnyInto__into__frames__WriteRefusal__u8(frames__WriteRefusal v1);
+static usize core__int__usize__min(usize v1, usize v2);
+static array_u8_2 core__int__u16__to_le_bytes(uint16_t v1);
 static uint16_t primitives__little_endian_at(slice_u8 v1, usize v2);
-static usize primitives__min(usize v1, usize v2);
 static void primitives__put(slice_mut_u8 v1, usize v2, slice_u8 v3);
-static array_u16_256 remainder__table(void);
-static uint16_t remainder__with_byte(const uint16_t *v1, uint16_t v2, uint8_t v3);
+static void primitives__put_little_endian(slice_mut_u8 v1, usize v2, uint16_t v3);
+static const uint16_t *remainder__table(void);
+static uint16_t remainder__with_byte(uint16_t v1, uint8_t v2);
 static uint16_t remainder__remainder(slice_u8 v1);
 static bool frames__check_right(slice_u8 v1);
-static uint16_t frames__fault_number(frames__Fault v1);
-static uint16_t frames__kind_number(frames__Kind v1);
-static frames__NamedKind frames__kind_numbered(uint16_t v1);
+static uint16_t frames__U16FromFault__from(frames__Fault v1);
+static uint16_t frames__U16FromKind__from(frames__Kind v1);
+static uint8_t frames__U8FromWriteRefusal__from(frames__WriteRefusal v1);
+static core__option__Option__frames__Kind frames__kind_numbered(uint16_t v1);
 static frames__Step frames__judge_head(slice_u8 v1);
 static frames__Step frames__judge(slice_u8 v1);
-static void frames__put_little_endian(slice_mut_u8 v1, usize v2, uint16_t v3);
-static uint8_t frames__refusal_number(frames__WriteRefusal v1);
 static void frames__write_check(slice_mut_u8 v1, usize v2, usize v3);
 static void frames__write_unchecked(frames__Kind v1, slice_u8 v2, slice_mut_u8 v3, uint16_t v4);
-static frames__Written frames__write_frame(frames__Kind v1, slice_u8 v2, slice_mut_u8 v3);
-static uint8_t frames__written_number(frames__Written v1);
+static core__result__Result__frames__FrameLength__frames__WriteRefusal frames__write_frame(frames__Kind v1, slice_u8 v2, slice_mut_u8 v3);
 static uint8_t frames__write_for_host(frames__Kind v1, slice_u8 v2, slice_mut_u8 v3);
-static dock_fed dock__host_fed(dock_stream v1, frames__Step v2, usize v3);
-static dock_stream dock__host_of(dock__Stream v1);
+static dock_fed dock__HostFedFromFed__from(dock__Fed v1);
+static dock_stream dock__HostStreamFromStream__from(dock__Stream v1);
+static dock__Stream dock__StreamFromHostStream__from(dock_stream v1);
 static usize dock__next_judged(slice_u8 v1);
 static usize dock__head_judged(slice_u8 v1);
 static frames__Step dock__put_behind(usize v1, slice_mut_u8 v2, slice_u8 v3);
 static usize dock__reach(usize v1, slice_u8 v2, slice_u8 v3);
-static dock__Part dock__collect(usize v1, slice_mut_u8 v2, slice_u8 v3);
-static frames__Step dock__resting(dock__Stream v1);
-static dock__Stream dock__start(void);
+static frames__Step dock__Stream__resting(dock__Stream v1);
+static dock__Stream dock__Stream__start(void);
+static dock__Stream dock__Stream__after(frames__Step v1);
+static dock__Fed dock__answered(frames__Step v1, usize v2);
+static dock__Fed dock__collect(usize v1, uint8_t *v2, slice_u8 v3);
 static dock_stream dock__start_for_host(void);
-static dock__Stream dock__stream_after(frames__Step v1);
-static dock__Stream dock__stream_of(dock_stream v1);
-static dock__Part dock__take_part(dock__Stream v1, slice_mut_u8 v2, slice_u8 v3);
-static dock__Fed dock__feed_lent(dock__Stream v1, slice_mut_u8 v2, slice_u8 v3);
-static dock__Fed dock__feed(dock__Stream v1, uint8_t *v2, slice_u8 v3);
+static dock__Fed dock__Stream__take_part(dock__Stream v1, uint8_t *v2, slice_u8 v3);
+static dock__Fed dock__Stream__feed(dock__Stream v1, uint8_t *v2, slice_u8 v3);
 static dock_fed dock__feed_for_host(dock_stream v1, uint8_t *v2, slice_u8 v3);
 static dock_fed firmware__dock_feed(dock_stream v1, uint8_t *v2, slice_u8 v3);
 static dock_stream firmware__dock_start(void);
 static uint8_t firmware__dock_write_command(slice_u8 v1, slice_mut_u8 v2);
 static uint8_t firmware__dock_write_response(slice_u8 v1, slice_mut_u8 v2);
 
-/* primitives::and */
-static bool primitives__and(bool v1, bool v2)
+/* core::int::u16::from_le_bytes */
+static uint16_t core__int__u16__from_le_bytes(array_u8_2 v1)
 {
-    bool result;
-    bool v3;
-    v3 = v1;
-    if (v3) {
-        result = v2;
-        return result;
-    }
-    result = false;
+    uint16_t result;
+    array_u8_2 v2;
+    uint8_t *v3;
+    uint8_t *v4;
+    uint8_t v5;
+    uint16_t v6;
+    uint8_t *v7;
+    uint8_t *v8;
+    uint8_t v9;
+    uint16_t v10;
+    uint16_t v11;
+    v2 = v1;
+    v3 = v2.at;
+    v4 = v3 + 0u;
+    v5 = *v4;
+    v6 = (uint16_t)v5;
+    v7 = v2.at;
+    v8 = v7 + 1u;
+    v9 = *v8;
+    v10 = (uint16_t)v9;
+    v11 = (uint16_t)((uint32_t)v10 * (uint32_t)256u);
+    result = (uint16_t)((uint32_t)v6 + (uint32_t)v11);
     return result;
 }
 
-/* primitives::copy_in */
-static void primitives__copy_in(slice_mut_u8 v1, slice_u8 v2)
+/* core::convert::AnyInto::into<dock::Fed, dock::HostFed> */
+static dock_fed core__convert__AnyInto__into__dock__Fed__dock__HostFed(dock__Fed v1)
 {
-    usize v3;
+    dock_fed result;
+    dock__Fed v2;
+    v2 = v1;
+    result = dock__HostFedFromFed__from(v2);
+    return result;
+}
+
+/* core::convert::AnyInto::into<dock::Stream, dock::HostStream> */
+static dock_stream core__convert__AnyInto__into__dock__Stream__dock__HostStream(dock__Stream v1)
+{
+    dock_stream result;
+    dock__Stream v2;
+    v2 = v1;
+    result = dock__HostStreamFromStream__from(v2);
+    return result;
+}
+
+/* core::convert::AnyInto::into<frames::Fault, u16> */
+static uint16_t core__convert__AnyInto__into__frames__Fault__u16(frames__Fault v1)
+{
+    uint16_t result;
+    frames__Fault v2;
+    v2 = v1;
+    result = frames__U16FromFault__from(v2);
+    return result;
+}
+
+/* core::convert::AnyInto::into<frames::Kind, u16> */
+static uint16_t core__convert__AnyInto__into__frames__Kind__u16(frames__Kind v1)
+{
+    uint16_t result;
+    frames__Kind v2;
+    v2 = v1;
+    result = frames__U16FromKind__from(v2);
+    return result;
+}
+
+/* core::convert::AnyInto::into<frames::WriteRefusal, u8> */
+static uint8_t core__convert__AnyInto__into__frames__WriteRefusal__u8(frames__WriteRefusal v1)
+{
+    uint8_t result;
+    frames__WriteRefusal v2;
+    v2 = v1;
+    result = frames__U8FromWriteRefusal__from(v2);
+    return result;
+}
+
+/* core::int::usize::min */
+static usize core__int__usize__min(usize v1, usize v2)
+{
+    usize result;
+    bool v3;
     usize v4;
-    bool v5;
-    const uint8_t *v6;
-    uint8_t v7;
-    uint8_t *v8;
-    v3 = 0u;
-    for (;;) {
-        v4 = v2.length;
-        v5 = v3 < v4;
-        if (!v5) {
-            break;
-        }
-        v6 = v2.at + v3;
-        v7 = *v6;
-        v8 = v1.at + v3;
-        *v8 = v7;
-        v3 = v3 + 1u;
+    v3 = v2 < v1;
+    if (v3) {
+        v4 = v2;
+    } else {
+        v4 = v1;
     }
-    return;
+    result = v4;
+    return result;
+}
+
+/* core::int::u16::to_le_bytes */
+static array_u8_2 core__int__u16__to_le_bytes(uint16_t v1)
+{
+    array_u8_2 result;
+    uint16_t v2;
+    uint8_t v3;
+    uint16_t v4;
+    uint16_t v5;
+    uint8_t v6;
+    v2 = (uint16_t)((uint32_t)v1 % (uint32_t)256u);
+    v3 = (uint8_t)v2;
+    v4 = (uint16_t)((uint32_t)v1 / (uint32_t)256u);
+    v5 = (uint16_t)((uint32_t)v4 % (uint32_t)256u);
+    v6 = (uint8_t)v5;
+    result = (array_u8_2){ { v3, v6 } };
+    return result;
 }
 
 /* primitives::little_endian_at */
 static uint16_t primitives__little_endian_at(slice_u8 v1, usize v2)
 {
     uint16_t result;
-    uint16_t v3;
-    uint16_t v4;
-    const uint8_t *v5;
-    uint8_t v6;
-    usize v7;
-    const uint8_t *v8;
-    uint16_t v9;
-    v5 = v1.at + v2;
-    v6 = *v5;
-    v3 = (uint16_t)v6;
-    v7 = v2 + 1u;
-    v8 = v1.at + v7;
-    v6 = *v8;
-    v4 = (uint16_t)v6;
-    v9 = (uint16_t)((uint32_t)256u * (uint32_t)v4);
-    result = (uint16_t)((uint32_t)v3 + (uint32_t)v9);
-    return result;
-}
-
-/* primitives::min */
-static usize primitives__min(usize v1, usize v2)
-{
-    usize result;
-    bool v3;
-    v3 = v1 < v2;
-    if (v3) {
-        result = v1;
-        return result;
-    }
-    result = v2;
+    const uint8_t *v3;
+    uint8_t v4;
+    usize v5;
+    const uint8_t *v6;
+    uint8_t v7;
+    array_u8_2 v8;
+    v3 = v1.at + v2;
+    v4 = *v3;
+    v5 = v2 + 1u;
+    v6 = v1.at + v5;
+    v7 = *v6;
+    v8 = (array_u8_2){ { v4, v7 } };
+    result = core__int__u16__from_le_bytes(v8);
     return result;
 }
 
@@ -250,24 +300,52 @@ static void primitives__put(slice_mut_u8 v1, usize v2, slice_u8 v3)
 {
     usize v4;
     usize v5;
-    uint8_t *v7;
-    uint8_t *v8;
-    slice_mut_u8 v9;
+    bool v6;
+    const uint8_t *v7;
+    uint8_t v8;
+    usize v9;
+    uint8_t *v10;
+    v4 = 0u;
     v5 = v3.length;
-    v4 = v2 + v5;
-    v7 = v1.at + v2;
-    v5 = v4 - v2;
+    for (;;) {
+        v6 = v4 < v5;
+        if (!v6) {
+            break;
+        }
+        v7 = v3.at + v4;
+        v8 = *v7;
+        v9 = v2 + v4;
+        v10 = v1.at + v9;
+        *v10 = v8;
+        v4 = v4 + 1u;
+    }
+    return;
+}
+
+/* primitives::put_little_endian */
+static void primitives__put_little_endian(slice_mut_u8 v1, usize v2, uint16_t v3)
+{
+    uint8_t *v5;
+    slice_mut_u8 v6;
+    array_u8_2 v7;
+    array_u8_2 v8;
+    const uint8_t *v9;
+    slice_u8 v10;
+    v5 = v1.at;
+    v6 = (slice_mut_u8){ .at = v5, .length = v1.length };
+    v7 = core__int__u16__to_le_bytes(v3);
     v8 = v7;
-    v9 = (slice_mut_u8){ .at = v8, .length = v5 };
-    primitives__copy_in(v9, v3);
+    v9 = v8.at;
+    v10 = (slice_u8){ .at = v9, .length = 2u };
+    primitives__put(v6, v2, v10);
     return;
 }
 
 /* remainder::table */
-static array_u16_256 remainder__table(void)
+static const uint16_t *remainder__table(void)
 {
-    array_u16_256 result;
-    result = (array_u16_256){ { 0u, 4489u, 8978u, 12955u, 17956u, 22445u, 25910u, 29887u, 35912u, 40385u, 44890u, 48851u, 51820u, 56293u, 59774u, 63735u,
+    const uint16_t *result;
+    static const uint16_t lent1[256] = { 0u, 4489u, 8978u, 12955u, 17956u, 22445u, 25910u, 29887u, 35912u, 40385u, 44890u, 48851u, 51820u, 56293u, 59774u, 63735u,
         4225u, 264u, 13203u, 8730u, 22181u, 18220u, 30135u, 25662u, 40137u, 36160u, 49115u, 44626u, 56045u, 52068u, 63999u, 59510u,
         8450u, 12427u, 528u, 5017u, 26406u, 30383u, 17460u, 21949u, 44362u, 48323u, 36440u, 40913u, 60270u, 64231u, 51324u, 55797u,
         12675u, 8202u, 4753u, 792u, 30631u, 26158u, 21685u, 17724u, 48587u, 44098u, 40665u, 36688u, 64495u, 60006u, 55549u, 51572u,
@@ -282,31 +360,35 @@ static array_u16_256 remainder__table(void)
         50700u, 55173u, 58654u, 62615u, 32808u, 37281u, 41786u, 45747u, 19012u, 23501u, 26966u, 30943u, 3168u, 7657u, 12146u, 16123u,
         54925u, 50948u, 62879u, 58390u, 37033u, 33056u, 46011u, 41522u, 23237u, 19276u, 31191u, 26718u, 7393u, 3432u, 16371u, 11898u,
         59150u, 63111u, 50204u, 54677u, 41258u, 45219u, 33336u, 37809u, 27462u, 31439u, 18516u, 23005u, 11618u, 15595u, 3696u, 8185u,
-        63375u, 58886u, 54429u, 50452u, 45483u, 40994u, 37561u, 33584u, 31687u, 27214u, 22741u, 18780u, 15843u, 11370u, 7921u, 3960u } };
+        63375u, 58886u, 54429u, 50452u, 45483u, 40994u, 37561u, 33584u, 31687u, 27214u, 22741u, 18780u, 15843u, 11370u, 7921u, 3960u };
+    result = lent1;
     return result;
 }
 
 /* remainder::with_byte */
-static uint16_t remainder__with_byte(const uint16_t *v1, uint16_t v2, uint8_t v3)
+static uint16_t remainder__with_byte(uint16_t v1, uint8_t v2)
 {
     uint16_t result;
+    uint16_t v3;
     uint16_t v4;
-    usize v5;
-    uint16_t v6;
+    const uint16_t *v5;
+    usize v6;
     usize v7;
     const uint16_t *v8;
     const uint16_t *v9;
     uint16_t v10;
-    v6 = (uint16_t)v3;
-    v4 = (uint16_t)((uint32_t)v2 ^ (uint32_t)v6);
-    v6 = (uint16_t)((uint32_t)v4 % (uint32_t)256u);
-    v5 = (usize)v6;
-    v7 = v5 * 2u;
-    v8 = v1;
+    uint16_t v11;
+    v4 = (uint16_t)v2;
+    v3 = (uint16_t)((uint32_t)v1 ^ (uint32_t)v4);
+    v5 = remainder__table();
+    v4 = (uint16_t)((uint32_t)v3 % (uint32_t)256u);
+    v6 = (usize)v4;
+    v7 = v6 * 2u;
+    v8 = v5;
     v9 = v8 + v7 / 2u;
-    v6 = *v9;
-    v10 = (uint16_t)((uint32_t)v4 / (uint32_t)256u);
-    result = (uint16_t)((uint32_t)v6 ^ (uint32_t)v10);
+    v10 = *v9;
+    v11 = (uint16_t)((uint32_t)v3 / (uint32_t)256u);
+    result = (uint16_t)((uint32_t)v10 ^ (uint32_t)v11);
     return result;
 }
 
@@ -314,32 +396,28 @@ static uint16_t remainder__with_byte(const uint16_t *v1, uint16_t v2, uint8_t v3
 static uint16_t remainder__remainder(slice_u8 v1)
 {
     uint16_t result;
-    array_u16_256 v2;
-    uint16_t v3;
-    usize v4;
-    array_u16_256 v5;
-    usize v6;
-    bool v7;
-    const uint16_t *v8;
-    const uint8_t *v9;
-    uint8_t v10;
-    v5 = remainder__table();
-    v2 = v5;
+    uint16_t v2;
+    usize v3;
+    const uint8_t *v4;
+    usize v5;
+    bool v6;
+    const uint8_t *v7;
+    uint8_t v8;
+    v2 = 0u;
     v3 = 0u;
-    v4 = 0u;
+    v5 = v1.length;
     for (;;) {
-        v6 = v1.length;
-        v7 = v4 < v6;
-        if (!v7) {
+        v6 = v3 < v5;
+        if (!v6) {
             break;
         }
-        v8 = v2.at;
-        v9 = v1.at + v4;
-        v10 = *v9;
-        v3 = remainder__with_byte(v8, v3, v10);
-        v4 = v4 + 1u;
+        v7 = v1.at + v3;
+        v4 = v7;
+        v8 = *v4;
+        v2 = remainder__with_byte(v2, v8);
+        v3 = v3 + 1u;
     }
-    result = v3;
+    result = v2;
     return result;
 }
 
@@ -363,8 +441,8 @@ static bool frames__check_right(slice_u8 v1)
     return result;
 }
 
-/* frames::fault_number */
-static uint16_t frames__fault_number(frames__Fault v1)
+/* frames::U16FromFault::from */
+static uint16_t frames__U16FromFault__from(frames__Fault v1)
 {
     uint16_t result;
     uint16_t v2;
@@ -384,8 +462,8 @@ static uint16_t frames__fault_number(frames__Fault v1)
     return result;
 }
 
-/* frames::kind_number */
-static uint16_t frames__kind_number(frames__Kind v1)
+/* frames::U16FromKind::from */
+static uint16_t frames__U16FromKind__from(frames__Kind v1)
 {
     uint16_t result;
     uint16_t v2;
@@ -402,26 +480,45 @@ static uint16_t frames__kind_number(frames__Kind v1)
     return result;
 }
 
-/* frames::kind_numbered */
-static frames__NamedKind frames__kind_numbered(uint16_t v1)
+/* frames::U8FromWriteRefusal::from */
+static uint8_t frames__U8FromWriteRefusal__from(frames__WriteRefusal v1)
 {
-    frames__NamedKind result;
-    bool v2;
+    uint8_t result;
+    uint8_t v2;
+    switch (v1.tag) {
+    case 0u:
+        v2 = 1u;
+        break;
+    case 1u:
+    default:
+        v2 = 2u;
+        break;
+    }
+    result = v2;
+    return result;
+}
+
+/* frames::kind_numbered */
+static core__option__Option__frames__Kind frames__kind_numbered(uint16_t v1)
+{
+    core__option__Option__frames__Kind result;
+    core__option__Option__frames__Kind v2;
     frames__Kind v3;
     frames__Kind v4;
-    v2 = v1 == 1u;
-    if (v2) {
+    switch (v1) {
+    case 1u:
         v3 = (frames__Kind){ .tag = 0u };
-        result = (frames__NamedKind){ .tag = 0u, .as.v0.f1 = v3 };
-        return result;
-    }
-    v2 = v1 == 2u;
-    if (v2) {
+        v2 = (core__option__Option__frames__Kind){ .tag = 1u, .as.v1.f1 = v3 };
+        break;
+    case 2u:
         v4 = (frames__Kind){ .tag = 1u };
-        result = (frames__NamedKind){ .tag = 0u, .as.v0.f1 = v4 };
-        return result;
+        v2 = (core__option__Option__frames__Kind){ .tag = 1u, .as.v1.f1 = v4 };
+        break;
+    default:
+        v2 = (core__option__Option__frames__Kind){ .tag = 0u };
+        break;
     }
-    result = (frames__NamedKind){ .tag = 1u };
+    result = v2;
     return result;
 }
 
@@ -436,17 +533,18 @@ static frames__Step frames__judge_head(slice_u8 v1)
     uint16_t v6;
     frames__FrameLength v7;
     uint16_t v8;
-    frames__Fault v9;
-    frames__Fault v10;
-    frames__Fault v11;
-    uint16_t v12;
-    frames__FrameLength v13;
-    frames__NamedKind v14;
-    frames__Fault v15;
-    uint16_t v16;
-    frames__FrameLength v17;
-    usize v18;
-    frames__BodyLength v19;
+    bool v9;
+    bool v10;
+    bool v11;
+    frames__Fault v12;
+    uint16_t v13;
+    frames__FrameLength v14;
+    core__option__Option__frames__Kind v15;
+    frames__Fault v16;
+    uint16_t v17;
+    frames__FrameLength v18;
+    usize v19;
+    frames__BodyLength v20;
     v2 = v1.length;
     v5 = v2 < 2u;
     if (v5) {
@@ -457,54 +555,54 @@ static frames__Step frames__judge_head(slice_u8 v1)
     }
     v8 = primitives__little_endian_at(v1, 0u);
     v3 = (usize)v8;
-    v5 = v3 < 6u;
-    if (v5) {
-        v9 = (frames__Fault){ .tag = 0u };
-        result = (frames__Step){ .tag = 2u, .as.v2.f1 = v9 };
-        return result;
+    v10 = v3 < 6u;
+    if (!v10) {
+        v10 = 1563u < v3;
+        v9 = v10;
+        if (!v9) {
+            v9 = v3 < v2;
+            v11 = v9;
+            if (!v11) {
+                goto end2;
+            }
+        }
     }
-    v5 = 1563u < v3;
-    if (v5) {
-        v10 = (frames__Fault){ .tag = 0u };
-        result = (frames__Step){ .tag = 2u, .as.v2.f1 = v10 };
-        return result;
-    }
-    v5 = v3 < v2;
-    if (v5) {
-        v11 = (frames__Fault){ .tag = 0u };
-        result = (frames__Step){ .tag = 2u, .as.v2.f1 = v11 };
-        return result;
-    }
+    v12 = (frames__Fault){ .tag = 0u };
+    result = (frames__Step){ .tag = 2u, .as.v2.f1 = v12 };
+    return result;
+    goto end1;
+    end2:;
+    end1:;
     v5 = v2 < 4u;
     if (v5) {
-        v12 = (uint16_t)v2;
-        v13 = (frames__FrameLength){ .f0 = v12 };
-        result = (frames__Step){ .tag = 1u, .as.v1.f1 = v13 };
+        v13 = (uint16_t)v2;
+        v14 = (frames__FrameLength){ .f0 = v13 };
+        result = (frames__Step){ .tag = 1u, .as.v1.f1 = v14 };
         return result;
     }
     v8 = primitives__little_endian_at(v1, 2u);
-    v14 = frames__kind_numbered(v8);
-    switch (v14.tag) {
-    case 0u:
-        v4 = v14.as.v0.f1;
-        break;
+    v15 = frames__kind_numbered(v8);
+    switch (v15.tag) {
     case 1u:
+        v4 = v15.as.v1.f1;
+        break;
+    case 0u:
     default:
-        v15 = (frames__Fault){ .tag = 1u };
-        result = (frames__Step){ .tag = 2u, .as.v2.f1 = v15 };
+        v16 = (frames__Fault){ .tag = 1u };
+        result = (frames__Step){ .tag = 2u, .as.v2.f1 = v16 };
         return result;
     }
     v5 = v2 < v3;
     if (v5) {
-        v16 = (uint16_t)v2;
-        v17 = (frames__FrameLength){ .f0 = v16 };
-        result = (frames__Step){ .tag = 1u, .as.v1.f1 = v17 };
+        v17 = (uint16_t)v2;
+        v18 = (frames__FrameLength){ .f0 = v17 };
+        result = (frames__Step){ .tag = 1u, .as.v1.f1 = v18 };
         return result;
     }
-    v18 = v2 - 6u;
-    v8 = (uint16_t)v18;
-    v19 = (frames__BodyLength){ .f0 = v8 };
-    result = (frames__Step){ .tag = 0u, .as.v0.f1 = v4, .as.v0.f2 = v19 };
+    v19 = v2 - 6u;
+    v8 = (uint16_t)v19;
+    v20 = (frames__BodyLength){ .f0 = v8 };
+    result = (frames__Step){ .tag = 0u, .as.v0.f1 = v4, .as.v0.f2 = v20 };
     return result;
 }
 
@@ -513,72 +611,32 @@ static frames__Step frames__judge(slice_u8 v1)
 {
     frames__Step result;
     frames__Step v2;
-    frames__Kind v3;
-    frames__BodyLength v4;
+    frames__Step v3;
+    frames__Step v4;
     bool v5;
-    frames__Fault v6;
-    v2 = frames__judge_head(v1);
-    switch (v2.tag) {
+    bool v6;
+    frames__Fault v7;
+    v3 = frames__judge_head(v1);
+    switch (v3.tag) {
     case 0u:
-        v3 = v2.as.v0.f1;
-        v4 = v2.as.v0.f2;
-        break;
+        v5 = frames__check_right(v1);
+        v6 = !v5;
+        if (v6) {
+            v7 = (frames__Fault){ .tag = 2u };
+            v4 = (frames__Step){ .tag = 2u, .as.v2.f1 = v7 };
+            goto end1;
+        }
+        goto end2;
     case 1u:
     case 2u:
     default:
-        result = v2;
-        return result;
+        goto end2;
     }
-    v5 = frames__check_right(v1);
-    if (v5) {
-        result = (frames__Step){ .tag = 0u, .as.v0.f1 = v3, .as.v0.f2 = v4 };
-        return result;
-    }
-    v6 = (frames__Fault){ .tag = 2u };
-    result = (frames__Step){ .tag = 2u, .as.v2.f1 = v6 };
-    return result;
-}
-
-/* frames::put_little_endian */
-static void frames__put_little_endian(slice_mut_u8 v1, usize v2, uint16_t v3)
-{
-    array_u8_2 v4;
-    uint16_t v5;
-    uint8_t v6;
-    uint16_t v7;
-    uint8_t v8;
-    uint8_t *v10;
-    slice_mut_u8 v11;
-    const uint8_t *v12;
-    slice_u8 v13;
-    v5 = (uint16_t)((uint32_t)v3 % (uint32_t)256u);
-    v6 = (uint8_t)v5;
-    v7 = (uint16_t)((uint32_t)v3 / (uint32_t)256u);
-    v8 = (uint8_t)v7;
-    v4 = (array_u8_2){ { v6, v8 } };
-    v10 = v1.at;
-    v11 = (slice_mut_u8){ .at = v10, .length = v1.length };
-    v12 = v4.at;
-    v13 = (slice_u8){ .at = v12, .length = 2u };
-    primitives__put(v11, v2, v13);
-    return;
-}
-
-/* frames::refusal_number */
-static uint8_t frames__refusal_number(frames__WriteRefusal v1)
-{
-    uint8_t result;
-    uint8_t v2;
-    switch (v1.tag) {
-    case 0u:
-        v2 = 1u;
-        break;
-    case 1u:
-    default:
-        v2 = 2u;
-        break;
-    }
-    result = v2;
+    end2:;
+    v2 = v3;
+    v4 = v2;
+    end1:;
+    result = v4;
     return result;
 }
 
@@ -599,7 +657,7 @@ static void frames__write_check(slice_mut_u8 v1, usize v2, usize v3)
     v4 = remainder__remainder(v8);
     v10 = v1.at;
     v11 = (slice_mut_u8){ .at = v10, .length = v1.length };
-    frames__put_little_endian(v11, v3, v4);
+    primitives__put_little_endian(v11, v3, v4);
     return;
 }
 
@@ -615,11 +673,11 @@ static void frames__write_unchecked(frames__Kind v1, slice_u8 v2, slice_mut_u8 v
     slice_mut_u8 v12;
     v6 = v3.at;
     v7 = (slice_mut_u8){ .at = v6, .length = v3.length };
-    frames__put_little_endian(v7, 0u, v4);
+    primitives__put_little_endian(v7, 0u, v4);
     v8 = v3.at;
     v9 = (slice_mut_u8){ .at = v8, .length = v3.length };
-    v10 = frames__kind_number(v1);
-    frames__put_little_endian(v9, 2u, v10);
+    v10 = core__convert__AnyInto__into__frames__Kind__u16(v1);
+    primitives__put_little_endian(v9, 2u, v10);
     v11 = v3.at;
     v12 = (slice_mut_u8){ .at = v11, .length = v3.length };
     primitives__put(v12, 4u, v2);
@@ -627,9 +685,9 @@ static void frames__write_unchecked(frames__Kind v1, slice_u8 v2, slice_mut_u8 v
 }
 
 /* frames::write_frame */
-static frames__Written frames__write_frame(frames__Kind v1, slice_u8 v2, slice_mut_u8 v3)
+static core__result__Result__frames__FrameLength__frames__WriteRefusal frames__write_frame(frames__Kind v1, slice_u8 v2, slice_mut_u8 v3)
 {
-    frames__Written result;
+    core__result__Result__frames__FrameLength__frames__WriteRefusal result;
     usize v4;
     uint16_t v5;
     bool v6;
@@ -646,7 +704,7 @@ static frames__Written frames__write_frame(frames__Kind v1, slice_u8 v2, slice_m
     v6 = 1557u < v4;
     if (v6) {
         v7 = (frames__WriteRefusal){ .tag = 0u };
-        result = (frames__Written){ .tag = 1u, .as.v1.f1 = v7 };
+        result = (core__result__Result__frames__FrameLength__frames__WriteRefusal){ .tag = 1u, .as.v1.f1 = v7 };
         return result;
     }
     v8 = v3.length;
@@ -654,7 +712,7 @@ static frames__Written frames__write_frame(frames__Kind v1, slice_u8 v2, slice_m
     v6 = v8 < v9;
     if (v6) {
         v10 = (frames__WriteRefusal){ .tag = 1u };
-        result = (frames__Written){ .tag = 1u, .as.v1.f1 = v10 };
+        result = (core__result__Result__frames__FrameLength__frames__WriteRefusal){ .tag = 1u, .as.v1.f1 = v10 };
         return result;
     }
     v8 = v4 + 6u;
@@ -667,27 +725,7 @@ static frames__Written frames__write_frame(frames__Kind v1, slice_u8 v2, slice_m
     v9 = v4 + 4u;
     frames__write_check(v15, 0u, v9);
     v16 = (frames__FrameLength){ .f0 = v5 };
-    result = (frames__Written){ .tag = 0u, .as.v0.f1 = v16 };
-    return result;
-}
-
-/* frames::written_number */
-static uint8_t frames__written_number(frames__Written v1)
-{
-    uint8_t result;
-    frames__WriteRefusal v2;
-    uint8_t v3;
-    switch (v1.tag) {
-    case 0u:
-        v3 = 0u;
-        break;
-    case 1u:
-    default:
-        v2 = v1.as.v1.f1;
-        v3 = frames__refusal_number(v2);
-        break;
-    }
-    result = v3;
+    result = (core__result__Result__frames__FrameLength__frames__WriteRefusal){ .tag = 0u, .as.v0.f1 = v16 };
     return result;
 }
 
@@ -695,41 +733,63 @@ static uint8_t frames__written_number(frames__Written v1)
 static uint8_t frames__write_for_host(frames__Kind v1, slice_u8 v2, slice_mut_u8 v3)
 {
     uint8_t result;
-    frames__Written v4;
-    uint8_t *v5;
-    slice_mut_u8 v6;
-    v5 = v3.at;
-    v6 = (slice_mut_u8){ .at = v5, .length = v3.length };
-    v4 = frames__write_frame(v1, v2, v6);
-    result = frames__written_number(v4);
+    frames__WriteRefusal v4;
+    core__result__Result__frames__FrameLength__frames__WriteRefusal v5;
+    uint8_t *v6;
+    slice_mut_u8 v7;
+    uint8_t v8;
+    v6 = v3.at;
+    v7 = (slice_mut_u8){ .at = v6, .length = v3.length };
+    v5 = frames__write_frame(v1, v2, v7);
+    switch (v5.tag) {
+    case 0u:
+        v8 = 0u;
+        break;
+    case 1u:
+    default:
+        v4 = v5.as.v1.f1;
+        v8 = core__convert__AnyInto__into__frames__WriteRefusal__u8(v4);
+        break;
+    }
+    result = v8;
     return result;
 }
 
-/* dock::host_fed */
-static dock_fed dock__host_fed(dock_stream v1, frames__Step v2, usize v3)
+/* dock::HostFedFromFed::from */
+static dock_fed dock__HostFedFromFed__from(dock__Fed v1)
 {
     dock_fed result;
-    frames__Kind v4;
-    frames__BodyLength v5;
-    uint16_t v6;
-    switch (v2.tag) {
+    dock_fed v2;
+    frames__Kind v3;
+    frames__BodyLength v4;
+    dock_stream v5;
+    dock__Stream v6;
+    uint16_t v7;
+    dock_stream v8;
+    usize v9;
+    v6 = v1.f0;
+    v5 = core__convert__AnyInto__into__dock__Stream__dock__HostStream(v6);
+    v2 = (dock_fed){ .stream = v5, .kind = 0u, .size = 0u, .taken = (size_t)v1.f2 };
+    switch (v1.f1.tag) {
     case 0u:
-        v4 = v2.as.v0.f1;
-        v5 = v2.as.v0.f2;
+        v3 = v1.f1.as.v0.f1;
+        v4 = v1.f1.as.v0.f2;
         break;
     case 1u:
     case 2u:
     default:
-        result = (dock_fed){ .stream = v1, .kind = 0u, .size = 0u, .taken = (size_t)v3 };
+        result = v2;
         return result;
     }
-    v6 = frames__kind_number(v4);
-    result = (dock_fed){ .stream = v1, .kind = v6, .size = v5.f0, .taken = (size_t)v3 };
+    v7 = core__convert__AnyInto__into__frames__Kind__u16(v3);
+    v8 = v2.stream;
+    v9 = (usize)v2.taken;
+    result = (dock_fed){ .stream = v8, .kind = v7, .size = v4.f0, .taken = (size_t)v9 };
     return result;
 }
 
-/* dock::host_of */
-static dock_stream dock__host_of(dock__Stream v1)
+/* dock::HostStreamFromStream::from */
+static dock_stream dock__HostStreamFromStream__from(dock__Stream v1)
 {
     dock_stream result;
     frames__FrameLength v2;
@@ -744,11 +804,42 @@ static dock_stream dock__host_of(dock__Stream v1)
     case 1u:
     default:
         v3 = v1.as.v1.f1;
-        v5 = frames__fault_number(v3);
+        v5 = core__convert__AnyInto__into__frames__Fault__u16(v3);
         v4 = (dock_stream){ .collected = 0u, .stop = v5 };
         break;
     }
     result = v4;
+    return result;
+}
+
+/* dock::StreamFromHostStream::from */
+static dock__Stream dock__StreamFromHostStream__from(dock_stream v1)
+{
+    dock__Stream result;
+    dock__Stream v2;
+    frames__FrameLength v3;
+    frames__Fault v4;
+    frames__Fault v5;
+    frames__Fault v6;
+    switch (v1.stop) {
+    case 0u:
+        v3 = (frames__FrameLength){ .f0 = v1.collected };
+        v2 = (dock__Stream){ .tag = 0u, .as.v0.f1 = v3 };
+        break;
+    case 2u:
+        v4 = (frames__Fault){ .tag = 1u };
+        v2 = (dock__Stream){ .tag = 1u, .as.v1.f1 = v4 };
+        break;
+    case 3u:
+        v5 = (frames__Fault){ .tag = 2u };
+        v2 = (dock__Stream){ .tag = 1u, .as.v1.f1 = v5 };
+        break;
+    default:
+        v6 = (frames__Fault){ .tag = 0u };
+        v2 = (dock__Stream){ .tag = 1u, .as.v1.f1 = v6 };
+        break;
+    }
+    result = v2;
     return result;
 }
 
@@ -758,8 +849,9 @@ static usize dock__next_judged(slice_u8 v1)
     usize result;
     usize v2;
     frames__Step v3;
-    bool v4;
-    uint16_t v5;
+    usize v4;
+    bool v5;
+    uint16_t v6;
     v2 = v1.length;
     v3 = frames__judge_head(v1);
     switch (v3.tag) {
@@ -771,18 +863,20 @@ static usize dock__next_judged(slice_u8 v1)
         result = v2 + 1u;
         return result;
     }
-    v4 = v2 < 2u;
-    if (v4) {
-        result = 2u;
-        return result;
+    v5 = v2 < 2u;
+    if (v5) {
+        v4 = 2u;
+        goto end1;
     }
-    v4 = v2 < 4u;
-    if (v4) {
-        result = 4u;
-        return result;
+    v5 = v2 < 4u;
+    if (v5) {
+        v4 = 4u;
+        goto end1;
     }
-    v5 = primitives__little_endian_at(v1, 0u);
-    result = (usize)v5;
+    v6 = primitives__little_endian_at(v1, 0u);
+    v4 = (usize)v6;
+    end1:;
+    result = v4;
     return result;
 }
 
@@ -834,67 +928,28 @@ static usize dock__reach(usize v1, slice_u8 v2, slice_u8 v3)
     usize v4;
     bool v5;
     bool v6;
-    bool v7;
-    const uint8_t *v8;
-    slice_u8 v9;
+    const uint8_t *v7;
+    slice_u8 v8;
     v4 = dock__head_judged(v3);
-    v6 = v1 == 0u;
-    v7 = 6u <= v4;
-    v5 = primitives__and(v6, v7);
+    v5 = v1 == 0u;
     if (v5) {
-        result = v4;
-        return result;
+        v5 = 6u <= v4;
+        v6 = v5;
+        if (v6) {
+            result = v4;
+            return result;
+            goto end1;
+        }
     }
-    v8 = v2.at;
-    v9 = (slice_u8){ .at = v8, .length = v1 };
-    result = dock__next_judged(v9);
+    end1:;
+    v7 = v2.at;
+    v8 = (slice_u8){ .at = v7, .length = v1 };
+    result = dock__next_judged(v8);
     return result;
 }
 
-/* dock::collect */
-static dock__Part dock__collect(usize v1, slice_mut_u8 v2, slice_u8 v3)
-{
-    dock__Part result;
-    usize v4;
-    bool v5;
-    frames__Fault v6;
-    frames__Step v7;
-    usize v8;
-    usize v9;
-    const uint8_t *v10;
-    slice_u8 v11;
-    usize v12;
-    usize v13;
-    frames__Step v14;
-    uint8_t *v15;
-    slice_mut_u8 v16;
-    const uint8_t *v17;
-    slice_u8 v18;
-    v5 = 1563u <= v1;
-    if (v5) {
-        v6 = (frames__Fault){ .tag = 0u };
-        v7 = (frames__Step){ .tag = 2u, .as.v2.f1 = v6 };
-        v8 = v3.length;
-        result = (dock__Part){ .f0 = v7, .f1 = v8 };
-        return result;
-    }
-    v10 = v2.at;
-    v11 = (slice_u8){ .at = v10, .length = v2.length };
-    v9 = dock__reach(v1, v11, v3);
-    v12 = v9 - v1;
-    v13 = v3.length;
-    v4 = primitives__min(v12, v13);
-    v15 = v2.at;
-    v16 = (slice_mut_u8){ .at = v15, .length = v2.length };
-    v17 = v3.at;
-    v18 = (slice_u8){ .at = v17, .length = v4 };
-    v14 = dock__put_behind(v1, v16, v18);
-    result = (dock__Part){ .f0 = v14, .f1 = v4 };
-    return result;
-}
-
-/* dock::resting */
-static frames__Step dock__resting(dock__Stream v1)
+/* dock::Stream::resting */
+static frames__Step dock__Stream__resting(dock__Stream v1)
 {
     frames__Step result;
     frames__FrameLength v2;
@@ -915,8 +970,8 @@ static frames__Step dock__resting(dock__Stream v1)
     return result;
 }
 
-/* dock::start */
-static dock__Stream dock__start(void)
+/* dock::Stream::start */
+static dock__Stream dock__Stream__start(void)
 {
     dock__Stream result;
     frames__FrameLength v1;
@@ -925,28 +980,16 @@ static dock__Stream dock__start(void)
     return result;
 }
 
-/* dock::start_for_host */
-static dock_stream dock__start_for_host(void)
-{
-    dock_stream result;
-    dock__Stream v1;
-    v1 = dock__start();
-    result = dock__host_of(v1);
-    return result;
-}
-
-/* dock::stream_after */
-static dock__Stream dock__stream_after(frames__Step v1)
+/* dock::Stream::after */
+static dock__Stream dock__Stream__after(frames__Step v1)
 {
     dock__Stream result;
     frames__FrameLength v2;
     frames__Fault v3;
     dock__Stream v4;
-    frames__FrameLength v5;
     switch (v1.tag) {
     case 0u:
-        v5 = (frames__FrameLength){ .f0 = 0u };
-        v4 = (dock__Stream){ .tag = 0u, .as.v0.f1 = v5 };
+        v4 = dock__Stream__start();
         break;
     case 1u:
         v2 = v1.as.v1.f1;
@@ -962,105 +1005,131 @@ static dock__Stream dock__stream_after(frames__Step v1)
     return result;
 }
 
-/* dock::stream_of */
-static dock__Stream dock__stream_of(dock_stream v1)
+/* dock::answered */
+static dock__Fed dock__answered(frames__Step v1, usize v2)
 {
-    dock__Stream result;
-    bool v2;
-    frames__FrameLength v3;
-    frames__Fault v4;
-    frames__Fault v5;
-    frames__Fault v6;
-    v2 = v1.stop == 0u;
-    if (v2) {
-        v3 = (frames__FrameLength){ .f0 = v1.collected };
-        result = (dock__Stream){ .tag = 0u, .as.v0.f1 = v3 };
-        return result;
-    }
-    v2 = v1.stop == 2u;
-    if (v2) {
-        v4 = (frames__Fault){ .tag = 1u };
-        result = (dock__Stream){ .tag = 1u, .as.v1.f1 = v4 };
-        return result;
-    }
-    v2 = v1.stop == 3u;
-    if (v2) {
-        v5 = (frames__Fault){ .tag = 2u };
-        result = (dock__Stream){ .tag = 1u, .as.v1.f1 = v5 };
-        return result;
-    }
-    v6 = (frames__Fault){ .tag = 0u };
-    result = (dock__Stream){ .tag = 1u, .as.v1.f1 = v6 };
+    dock__Fed result;
+    dock__Stream v3;
+    v3 = dock__Stream__after(v1);
+    result = (dock__Fed){ .f0 = v3, .f1 = v1, .f2 = v2 };
     return result;
 }
 
-/* dock::take_part */
-static dock__Part dock__take_part(dock__Stream v1, slice_mut_u8 v2, slice_u8 v3)
+/* dock::collect */
+static dock__Fed dock__collect(usize v1, uint8_t *v2, slice_u8 v3)
 {
-    dock__Part result;
+    dock__Fed result;
+    usize v4;
+    frames__Step v5;
+    bool v6;
+    frames__Fault v7;
+    frames__Step v8;
+    usize v9;
+    usize v10;
+    const uint8_t *v11;
+    slice_u8 v12;
+    usize v13;
+    usize v14;
+    uint8_t *v15;
+    slice_mut_u8 v16;
+    const uint8_t *v17;
+    slice_u8 v18;
+    v6 = 1563u <= v1;
+    if (v6) {
+        v7 = (frames__Fault){ .tag = 0u };
+        v8 = (frames__Step){ .tag = 2u, .as.v2.f1 = v7 };
+        v9 = v3.length;
+        result = dock__answered(v8, v9);
+        return result;
+    }
+    v11 = v2;
+    v12 = (slice_u8){ .at = v11, .length = 1563u };
+    v10 = dock__reach(v1, v12, v3);
+    v13 = v10 - v1;
+    v14 = v3.length;
+    v4 = core__int__usize__min(v13, v14);
+    v15 = v2;
+    v16 = (slice_mut_u8){ .at = v15, .length = 1563u };
+    v17 = v3.at;
+    v18 = (slice_u8){ .at = v17, .length = v4 };
+    v5 = dock__put_behind(v1, v16, v18);
+    result = dock__answered(v5, v4);
+    return result;
+}
+
+/* dock::start_for_host */
+static dock_stream dock__start_for_host(void)
+{
+    dock_stream result;
+    dock__Stream v1;
+    v1 = dock__Stream__start();
+    result = core__convert__AnyInto__into__dock__Stream__dock__HostStream(v1);
+    return result;
+}
+
+/* dock::Stream::take_part */
+static dock__Fed dock__Stream__take_part(dock__Stream v1, uint8_t *v2, slice_u8 v3)
+{
+    dock__Fed result;
     frames__FrameLength v4;
     frames__Fault v5;
-    dock__Part v6;
+    dock__Fed v6;
     usize v7;
     uint8_t *v8;
-    slice_mut_u8 v9;
-    frames__Step v10;
-    usize v11;
+    frames__Step v9;
+    usize v10;
     switch (v1.tag) {
     case 0u:
         v4 = v1.as.v0.f1;
         v7 = (usize)v4.f0;
-        v8 = v2.at;
-        v9 = (slice_mut_u8){ .at = v8, .length = v2.length };
-        v6 = dock__collect(v7, v9, v3);
+        v8 = v2;
+        v6 = dock__collect(v7, v8, v3);
         break;
     case 1u:
     default:
         v5 = v1.as.v1.f1;
-        v10 = (frames__Step){ .tag = 2u, .as.v2.f1 = v5 };
-        v11 = v3.length;
-        v6 = (dock__Part){ .f0 = v10, .f1 = v11 };
+        v9 = (frames__Step){ .tag = 2u, .as.v2.f1 = v5 };
+        v10 = v3.length;
+        v6 = dock__answered(v9, v10);
         break;
     }
     result = v6;
     return result;
 }
 
-/* dock::feed_lent */
-static dock__Fed dock__feed_lent(dock__Stream v1, slice_mut_u8 v2, slice_u8 v3)
+/* dock::Stream::feed */
+static dock__Fed dock__Stream__feed(dock__Stream v1, uint8_t *v2, slice_u8 v3)
 {
     dock__Fed result;
     dock__Stream v4;
     usize v5;
-    dock__Part v6;
-    frames__Step v7;
-    usize v8;
-    bool v9;
-    uint8_t *v10;
-    slice_mut_u8 v11;
-    const uint8_t *v12;
-    const uint8_t *v13;
-    slice_u8 v14;
+    dock__Fed v6;
+    usize v7;
+    bool v8;
+    uint8_t *v9;
+    const uint8_t *v10;
+    const uint8_t *v11;
+    slice_u8 v12;
+    dock__Stream v13;
+    frames__Step v14;
     frames__Step v15;
     v4 = v1;
     v5 = 0u;
     for (;;) {
-        v8 = v3.length;
-        v9 = v5 < v8;
-        if (!v9) {
+        v7 = v3.length;
+        v8 = v5 < v7;
+        if (!v8) {
             break;
         }
-        v10 = v2.at;
-        v11 = (slice_mut_u8){ .at = v10, .length = v2.length };
-        v12 = v3.at + v5;
-        v8 = v3.length - v5;
-        v13 = v12;
-        v14 = (slice_u8){ .at = v13, .length = v8 };
-        v6 = dock__take_part(v4, v11, v14);
-        v7 = v6.f0;
-        v4 = dock__stream_after(v7);
-        v5 = v5 + v6.f1;
-        switch (v7.tag) {
+        v9 = v2;
+        v10 = v3.at + v5;
+        v7 = v3.length - v5;
+        v11 = v10;
+        v12 = (slice_u8){ .at = v11, .length = v7 };
+        v6 = dock__Stream__take_part(v4, v9, v12);
+        v4 = v6.f0;
+        v5 = v5 + v6.f2;
+        switch (v6.f1.tag) {
         case 0u:
             break;
         case 1u:
@@ -1068,23 +1137,13 @@ static dock__Fed dock__feed_lent(dock__Stream v1, slice_mut_u8 v2, slice_u8 v3)
         default:
             continue;
         }
-        result = (dock__Fed){ .f0 = v4, .f1 = v7, .f2 = v5 };
+        v13 = v6.f0;
+        v14 = v6.f1;
+        result = (dock__Fed){ .f0 = v13, .f1 = v14, .f2 = v5 };
         return result;
     }
-    v15 = dock__resting(v4);
+    v15 = dock__Stream__resting(v4);
     result = (dock__Fed){ .f0 = v4, .f1 = v15, .f2 = v5 };
-    return result;
-}
-
-/* dock::feed */
-static dock__Fed dock__feed(dock__Stream v1, uint8_t *v2, slice_u8 v3)
-{
-    dock__Fed result;
-    uint8_t *v4;
-    slice_mut_u8 v5;
-    v4 = v2;
-    v5 = (slice_mut_u8){ .at = v4, .length = 1563u };
-    result = dock__feed_lent(v1, v5, v3);
     return result;
 }
 
@@ -1094,17 +1153,11 @@ static dock_fed dock__feed_for_host(dock_stream v1, uint8_t *v2, slice_u8 v3)
     dock_fed result;
     dock__Fed v4;
     dock__Stream v5;
-    frames__Step v6;
-    dock__Stream v7;
-    uint8_t *v8;
-    dock_stream v9;
-    v7 = dock__stream_of(v1);
-    v8 = v2;
-    v4 = dock__feed(v7, v8, v3);
-    v5 = v4.f0;
-    v6 = v4.f1;
-    v9 = dock__host_of(v5);
-    result = dock__host_fed(v9, v6, v4.f2);
+    uint8_t *v6;
+    v5 = dock__StreamFromHostStream__from(v1);
+    v6 = v2;
+    v4 = dock__Stream__feed(v5, v6, v3);
+    result = core__convert__AnyInto__into__dock__Fed__dock__HostFed(v4);
     return result;
 }
 
