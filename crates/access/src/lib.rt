@@ -88,7 +88,7 @@ fn ends_group(condition: &[u8]) -> bool
     requires { 3 ≤ length condition.now }
     ensures { result ≡ ends_group condition.now }
 {
-    condition.len() < JOINED || condition[3] == 0xFE
+    condition.len() < JOINED || condition[3] == expression::OR
 }
 
 // The counters that the first group of these bytes names.
@@ -116,19 +116,19 @@ struct Sight<'a> {
 }
 
 impl Sight<'_> {
-    // The state that a condition speaks of.
+    // The state that a condition speaks of: its subject stays a number, since the rules give a state for every byte.
     #[tactic(auto, unfolding(rules::specs::Access::seen, rules::specs::Access::present))]
     fn state_of(&self, subject: u8) -> u8
         ensures { result ≡ present (seen [] self.now.session) self.now.lcso subject }
     {
         match subject {
-            0x70 => self.session.lcsg,
-            0xE0 => self.session.lcsa,
+            expression::LCSG => self.session.lcsg,
+            expression::LCSA => self.session.lcsa,
             _ => self.lcso,
         }
     }
 
-    // Whether a condition on a state holds.
+    // Whether a condition on a state holds: its relation stays a number, since the rules give an answer for every byte.
     #[tactic(auto, unfolding(rules::specs::Access::state_holds, expression::specs::Conditions::condition_at))]
     fn state_holds(&self, condition: &[u8]) -> bool
         requires { 3 ≤ length condition.now }
@@ -137,8 +137,8 @@ impl Sight<'_> {
         let state = self.state_of(condition[0]);
         let reference = condition[2];
         match condition[1] {
-            0xFA => state == reference,
-            0xFB => reference < state,
+            expression::EQUAL => state == reference,
+            expression::GREATER => reference < state,
             _ => state < reference,
         }
     }
@@ -193,7 +193,7 @@ impl Sight<'_> {
         ensures { told result ≡ grant (seen_in self.now.store.now self.now.session) self.now.lcso (read_expression part.now) }
     {
         match part {
-            [only] if *only == 0x00 => Some(Counters::none()),
+            [only] if *only == expression::ALWAYS => Some(Counters::none()),
             [_] => None,
             _ => {
                 let start = self.deciding_group(part)?;

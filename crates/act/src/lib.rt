@@ -52,6 +52,7 @@ fn set_state(command: &[u8], number: ObjectNumber, session: Session, room: &mut 
 }
 
 // At an object of the session: the session after it. Its metadata, a count, an append and an acknowledgement were refused before.
+// A match on the rules' actions: closures for them would have to be handed out.
 pub fn act_in_session(
     asked: Action,
     command: &[u8],

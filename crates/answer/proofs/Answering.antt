@@ -3,7 +3,7 @@ use Prim.Native.Nat.{ℕ, ◌+◌, ◌-◌, ◌/◌, ◌%◌, ◌≤◌, ◌<◌
 use mathlib.Core.Path.{◌≡◌, refl, sym, ap, ◌∙◌}
 use mathlib.Core.List.{List, [], ◌∷◌, ◌++◌, append-nil, append_assoc}
 use native.Mathlib.Omega.{arith}
-use lib.ListN.{length, length-append}
+use lib.ListN.{length, length-append, get_or}
 use Rattle.rules.specs.declared.Slot.{Slot}
 use Rattle.rules.specs.declared.Slot.TheVariants.{Change, Read, Execute}
 use Rattle.rules.specs.Basic.{big_endian}
@@ -61,11 +61,15 @@ module _ (s : Slot) (o : Object) (place n : ℕ) (v : List ℕ) (e : v ≡ value
 -- the whole answer ----------------------------------------------------------------------------------------------------------------
 
 -- `put_sizes`
-pub sizes_put : (o : Object) (st m u n : ℕ) (xs r : List ℕ) → st ≡ o.lcso → m ≡ o.maximum → u ≡ used o →
-    r ≡ over 4 (0x20 ∷ n ∷ 0xC0 ∷ 1 ∷ st ∷ 0xC4 ∷ 2 ∷ m / 256 ∷ m % 256 ∷ 0xC5 ∷ 2 ∷ u / 256 ∷ u % 256 ∷ []) xs →
+high_byte : (n : ℕ) → n < 65536 → n / 256 % 256 ≡ n / 256
+high_byte n h = omega (arith, h)
+
+pub sizes_put : (o : Object) (st m u n : ℕ) (ms us xs r : List ℕ) → st ≡ o.lcso → m ≡ o.maximum → u ≡ used o → m < 65536 → u < 65536 →
+    ms ≡ m / 256 % 256 ∷ m % 256 ∷ [] → us ≡ u / 256 % 256 ∷ u % 256 ∷ [] →
+    r ≡ over 4 (0x20 ∷ n ∷ 0xC0 ∷ 1 ∷ st ∷ 0xC4 ∷ 2 ∷ get_or ms 0 0 ∷ get_or ms 1 0 ∷ 0xC5 ∷ 2 ∷ get_or us 0 0 ∷ get_or us 1 0 ∷ []) xs →
     r ≡ over 4 (0x20 ∷ n ∷ fields_bytes (state_and_sizes o)) xs
 unfolding fields_bytes state_and_sizes field
-sizes_put o st m u n xs r es em eu e = rw (← es, ← em, ← eu) e
+sizes_put o st m u n ms us xs r es em eu hm hu bm bu e = rw (← es, ← em, ← eu) (rw (bm, bu, high_byte m hm, high_byte u hu) at e)
 
 fields_append : (fs gs : List Field) → fields_bytes (fs ++ gs) ≡ fields_bytes fs ++ fields_bytes gs
 unfolding fields_bytes

@@ -47,6 +47,7 @@ pub fn answer_length(object: &StoredObject<'_>) -> Length
     Length(answer_size(object))
 }
 
+// A slot has a tag and a place in a record: `From<Slot>` would not say which.
 fn tag_of(slot: Slot) -> u8
     ensures { result ≡ slot_tag slot }
 {
@@ -62,8 +63,8 @@ fn put_sizes(object: &StoredObject<'_>, size: usize, room: &mut [u8])
     requires { (2 ≤ size) × (size ≤ 257) × (17 ≤ length room.old) }
     ensures { room.new ≡ over 4 (front_bytes size object.now) room.old }
 {
-    let maximum = object.maximum().0;
-    let used = object.used().0;
+    let maximum = (object.maximum().0 as u16).to_be_bytes();
+    let used = (object.used().0 as u16).to_be_bytes();
     let bytes = [
         0x20,
         (size - 2) as u8,
@@ -72,12 +73,12 @@ fn put_sizes(object: &StoredObject<'_>, size: usize, room: &mut [u8])
         object.lcso(),
         MAXIMUM_TAG,
         2,
-        (maximum / 256) as u8,
-        (maximum % 256) as u8,
+        maximum[0],
+        maximum[1],
         USED_TAG,
         2,
-        (used / 256) as u8,
-        (used % 256) as u8,
+        used[0],
+        used[1],
     ];
     primitives::put(room, ANSWER, &bytes);
 }

@@ -19,6 +19,7 @@ fn read_full(rt: &HostRuntime, input: &mut [u8]) -> io::Result<usize>
 {
     let mut stdin = rt.stdin();
     let mut n = 0;
+    // How far it goes is what each read answers.
     while n < input.len() {
         let more = stdin.read(&mut input[n..])?;
         if more == 0 {

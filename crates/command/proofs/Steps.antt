@@ -1,67 +1,31 @@
 -- The tests of the steps 2 to 8, from what the code reads.
-use Prim.Native.Nat.{ℕ, ◌+◌, ◌*◌, ◌-◌, ◌<◌, ◌≤◌}
-use mathlib.Core.Path.{◌≡◌, refl, sym, ap, ◌∙◌}
+use Prim.Native.Nat.{ℕ, ◌+◌, ◌*◌, ◌-◌, ◌≤◌}
+use mathlib.Core.Path.{◌≡◌, refl, sym, ◌∙◌}
 use mathlib.Core.List.{List, [], ◌∷◌}
-use mathlib.Core.Bool.{Bool, true, false, not, ◌&&◌, not-eq-not}
+use mathlib.Core.Bool.{Bool, true, false, not}
 use native.Mathlib.Omega.{arith}
-use native.Mathlib.Numerals.{add-one}
-use borrow.Author.Tests.{eq-eqb, ne_eqb, le-ltb}
 use borrow.Author.Rules.{part_to_end}
 use lib.Dec.{eqb}
 use lib.Pointwise.{pointwise}
-use lib.ListN.{length, get_or, take, drop, length-drop, drop_of_length-le}
-use lib.Seq.{drop-cons}
+use lib.ListN.{length, get_or, take, drop}
 use Rattle.rules.specs.declared.Row.{Row}
 use Rattle.rules.specs.declared.Row.TheVariants.{OnObject, OpenApplication, CloseApplication, Unknown}
 use Rattle.rules.specs.declared.Sizes.{Sizes}
-use Rattle.rules.specs.declared.Session.{Session}
 use Rattle.rules.specs.Basic.{same}
-use Rattle.rules.specs.Command.{cmd, row, is_unknown, size_right, in_length, in_data, identifier}
-use Rattle.rules.specs.Expression.{is_state}
-use Rattle.rules.specs.Refusals.{unsound, ill_sized, unusable, unknown_param, wrong_length, wrong_content}
-use Rattle.laws.proofs.Tests.{same_eq}
+use Rattle.rules.specs.Command.{row, size_right, in_length, in_data, identifier}
+use Rattle.rules.specs.Refusals.{ill_sized, wrong_length, wrong_content}
 use Rattle.laws.proofs.Rows.{sized as in_length_told}
 use Rattle.std.proofs.lemmas.Grind.{common_steps}
 use Rattle.command.specs.Table.{row_sizes}
 use Rattle.command.proofs.Table.{takes, sizes_alike, takes_alike}
 
--- 2 -----------------------------------------------------------------------------------------------------------------------
-
-pub lcsg_malformed : (sound : Bool) (s : Session) (g : Bool) → not sound ≡ false → g ≡ is_state s.lcsg → not g ≡ true → true ≡ unsound sound s
-unfolding unsound
-lcsg_malformed sound s g h e f = rw (h, ← e, f)
-
-pub lcsa_decides : (sound : Bool) (s : Session) (g a : Bool) → not sound ≡ false → g ≡ is_state s.lcsg → not g ≡ false → a ≡ is_state s.lcsa →
-    not a ≡ unsound sound s
-unfolding unsound
-lcsa_decides sound s g a h e f k = rw (h, ← e, f, ← k)
-
 -- 3 -----------------------------------------------------------------------------------------------------------------------
 
-module _ (c : List ℕ) where
-  pub size_told : (n : ℕ) → 4 ≤ length c → length c ≤ 1557 → n ≡ 256 * get_or c 2 0 + get_or c (2 + 1) 0 → not (eqb n (length c - 4)) ≡ ill_sized c
-  unfolding ill_sized in_length in_data
-  size_told n h k e = rw (le-ltb (length c) 4 h, le-ltb 1557 (length c) k, length-drop, e)
-
-  -- what a passed step 3 tells
-  pub sized : (q : Bool) → q ≡ ill_sized c → q ≡ false → 4 ≤ length c
-  sized q e h = omega (arith, in_length_told c (sym e ∙ h))
-
-  -- 4, 5 --------------------------------------------------------------------------------------------------------------------
-
-  pub closed_told : (n : ℕ) (s : Session) → n ≡ cmd c → (s.lcsa ≡ 0x0F → ⊥) → s.opened ≡ false → not (eqb n 0x70) ≡ unusable c s
-  unfolding unusable
-  closed_told n s e h o = rw (ne_eqb s.lcsa 0x0F h, o, e)
-
-  pub usable : (s : Session) → (s.lcsa ≡ 0x0F → ⊥) → s.opened ≡ true → false ≡ unusable c s
-  unfolding unusable
-  usable s h o = rw (ne_eqb s.lcsa 0x0F h, o)
+-- what a passed step 3 tells
+pub sized : (c : List ℕ) (q : Bool) → q ≡ ill_sized c → q ≡ false → 4 ≤ length c
+sized c q e h = omega (arith, in_length_told c (sym e ∙ h))
 
 -- 6, 7 --------------------------------------------------------------------------------------------------------------------
-
-pub param_told : (c : List ℕ) (w v : Row) (r : Bool) → w ≡ row c → w ≡ v → r ≡ is_unknown v → r ≡ unknown_param c
-unfolding unknown_param
-param_told c w v r e f g = cc
 
 pub length_told : (c : List ℕ) (w : Row) (z : Sizes) (n : ℕ) (q : Bool) → w ≡ row c → z ≡ row_sizes w → n ≡ 256 * get_or c 2 0 + get_or c (2 + 1) 0 →
     q ≡ size_right z n → not q ≡ wrong_length c

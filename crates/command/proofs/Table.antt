@@ -3,7 +3,6 @@ use Prim.Native.Nat.{ℕ}
 use mathlib.Core.Bool.{Bool, true, false, ◌&&◌}
 use mathlib.Core.List.{List, [], ◌∷◌}
 use mathlib.Core.Path.{◌≡◌, refl}
-use borrow.Author.Tests.{ne_eqb}
 use lib.Dec.{eqb}
 use Rattle.rules.specs.declared.Row.{Row}
 use Rattle.rules.specs.declared.Row.TheVariants.{OnObject, OpenApplication, CloseApplication, Unknown}
@@ -11,7 +10,7 @@ use Rattle.std.specs.Prelude.{if◌then◌else◌}
 use Rattle.rules.specs.Basic.{same}
 use Rattle.rules.specs.Command.{Line, anything, identifier, table_line, command_table, no_line, line_in, line_of, cmd, param, row}
 use Rattle.laws.proofs.Rows.{every_line}
-use Rattle.command.specs.Table.{row_in, session_row, row_sizes}
+use Rattle.command.specs.Table.{row_in, row_sizes}
 
 pub rows_alike : (ls : List Line) (c p : ℕ) → row_in ls c p ≡ (line_in ls c p).row
 unfolding row_in line_in no_line table_line
@@ -37,8 +36,3 @@ takes Unknown b = true
 pub takes_alike : (c b : List ℕ) → takes (row c) b ≡ (line_of c).takes b
 unfolding row line_of command_table table_line no_line anything
 takes_alike c b = every_line (λ l. takes l.row b ≡ l.takes b) command_table (cmd c) (param c) (search) refl
-
--- the row of a Cmd that neither gets nor sets
-pub other_rows : (c p : ℕ) (r : Row) → (c ≡ 0x01 → ⊥) → (c ≡ 0x02 → ⊥) → r ≡ session_row c p → r ≡ row_in command_table c p
-unfolding row_in session_row command_table table_line
-other_rows c p r g s e = rw (ne_eqb c 0x01 g, ne_eqb c 0x02 s) e

@@ -12,13 +12,6 @@ unfoldable pub row_in : List Line → ℕ → ℕ → Row
 row_in [] c p = Unknown
 row_in (l ∷ ls) c p = let rest = row_in ls c p in if eqb c l.cmd && eqb p l.param then l.row else rest
 
--- the row of a Cmd that neither gets nor sets
-unfoldable pub session_row : ℕ → ℕ → Row
-session_row c p =
-    if eqb c 0x70 && eqb p 0x00 then OpenApplication else
-    (if eqb c 0x71 && eqb p 0x00 then CloseApplication else
-    Unknown)
-
 -- how many bytes InData may have
 abbrev pub action_sizes : Action → Sizes
 action_sizes GetData = exactly 6

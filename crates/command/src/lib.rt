@@ -13,7 +13,8 @@ use rules::{
     Action, Length, ObjectNumber, Offset, Refusal, Row, Session, Sizes, Verdict, refuse_if,
 };
 
-// The parts of a command.
+// The parts of a command, each by its word of the rules with its own type and least length: one function for all would have the word as a
+// parameter.
 
 // The top bit of Cmd; an empty command has none.
 #[tactic(auto, unfolding(rules::specs::Command::asks_flush))]
@@ -158,7 +159,7 @@ fn unknown_cmd(command: &[u8]) -> bool
     !known_cmd(cmd(command))
 }
 
-// Step 5.
+// Step 5. LcsA stays a number: a session may hold any byte.
 #[tactic(auto, unfolding(rules::specs::Refusals::unusable))]
 fn unusable(command: &[u8], session: Session) -> bool
     requires { 4 ≤ length command.now }

@@ -42,6 +42,7 @@ pub fn content_allowed(content: &[u8], lcso: u8) -> bool
 }
 
 // The slot of an expression's tag.
+// A slot for every byte, as `tag_slot` has it.
 #[tactic(auto, unfolding(crate::specs::Storing::tag_slot))]
 fn slot_of(tag: u8) -> Slot
     ensures { result ≡ tag_slot tag }

@@ -11,6 +11,7 @@ ghost use Rattle.dock.specs.Parts.{next_judged, head_judged, reach, answered, co
 use frames::{AROUND, Fault, FrameLength, HEAD, LONGEST, Step};
 
 // A stream: the bytes collected of the present frame, which stand at the front of the lent bytes, or the fault that stopped it.
+// The contract of `dock_start` names it; a stopped stream is a state that goes on answering, and no error that is handed on.
 #[derive(Clone, Copy, Debug, PartialEq, Eq)]
 pub enum Stream {
     Collecting(FrameLength),
@@ -61,6 +62,7 @@ fn next_judged(bytes: &[u8]) -> usize
 
 // The same of bytes that begin a frame, where its head is among them and no fault is in it; else fewer than the shortest frame has.
 #[tactic(auto, unfolding(crate::specs::Parts::head_judged))]
+// A number, since `reach` compares it with the shortest frame.
 fn head_judged(bytes: &[u8]) -> usize
     ensures { result ≡ head_judged bytes.now }
 {
@@ -72,6 +74,7 @@ fn head_judged(bytes: &[u8]) -> usize
 
 // How many bytes are collected when they are judged next, with these to come behind the n in the lent bytes.
 #[tactic(auto, unfolding(crate::specs::Parts::reach))]
+// The lent bytes are the host's, and the count stands in its stream.
 fn reach(n: usize, frame: &[u8], bytes: &[u8]) -> usize
     requires { n ≤ length frame.now }
     ensures { result ≡ reach n frame.now bytes.now }

@@ -20,6 +20,7 @@ use judge::Target;
 use rules::{Action, Refusal, Row, Session};
 
 // The outcome number and the session after a command.
+// The outcome is a number as in `After` of the rules, which `executed` makes of it.
 #[derive(Clone, Copy, Debug, PartialEq, Eq)]
 pub struct Answer {
     pub outcome: u8,

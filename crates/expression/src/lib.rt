@@ -14,7 +14,7 @@ const GROUPS: usize = 3;
 pub const LONGEST: usize = 4 * CONDITIONS - 1;
 
 // The single bytes that are expressions.
-const ALWAYS: u8 = 0x00;
+pub const ALWAYS: u8 = 0x00;
 
 const NEVER: u8 = 0xFF;
 
@@ -56,19 +56,17 @@ pub fn may_become(present: u8, next: u8) -> bool
     is_state(next) && present <= next
 }
 
-// Whether the condition of the three bytes at `at` is well formed.
+// Whether the condition of the three bytes at `at` is well formed. The subjects are tested together: as arms of one match with the
+// counter's they are guessed wrong, and the check of long expressions takes half as long again.
 #[tactic(auto, unfolding(rules::specs::Basic::all, rules::specs::Basic::among, rules::specs::Expression::names_counter, rules::specs::Expression::condition_allowed, crate::specs::Conditions::condition_at))]
 pub fn condition_allowed(part: &[u8], at: usize) -> bool
     requires { at + 2 < length part.now }
     ensures { result ≡ condition_allowed (condition_at at part.now) }
 {
-    match part[at] {
-        COUNTER => true,
-        LCSG | LCSA | LCSO => {
-            matches!(part[at + 1], EQUAL | GREATER | LESS) && is_state(part[at + 2])
-        }
-        _ => false,
+    if !matches!(part[at], LCSG | LCSA | LCSO) {
+        return part[at] == COUNTER;
     }
+    matches!(part[at + 1], EQUAL | GREATER | LESS) && is_state(part[at + 2])
 }
 
 // How many groups may still come, the present one counted, behind a byte that joins; none where it does not, or begins one too many.

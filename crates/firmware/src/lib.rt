@@ -49,6 +49,7 @@ fn opened_byte(was: u8, opened: bool) -> u8
     if opened { was.max(1) } else { 0 }
 }
 
+// Of two values: the byte that the host has is kept.
 #[tactic(auto, unfolding(crate::specs::Host::bytes_of))]
 fn bytes_of(was: HostSession, session: Session) -> HostSession
     ensures { result ≡ bytes_of was session }

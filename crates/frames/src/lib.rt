@@ -41,6 +41,7 @@ pub enum Fault {
 }
 
 // What the bytes of a frame so far amount to: a whole frame; bytes of one that is not complete; a fault.
+// The project names this form: an answer of three cases, taken apart by `let .. else`.
 #[derive(Clone, Copy, Debug, PartialEq, Eq)]
 pub enum Step {
     Whole(Kind, BodyLength),
@@ -91,6 +92,7 @@ impl From<WriteRefusal> for u8 {
 }
 
 #[tactic(auto, unfolding(crate::specs::Frames::kind_numbered))]
+// An Option: an error would have nothing to tell, since the caller names the fault.
 fn kind_numbered(n: u16) -> Option<Kind>
     ensures { result ≡ kind_numbered n }
 {

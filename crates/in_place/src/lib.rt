@@ -6,6 +6,7 @@ ghost use Rattle.element.specs.Executed.{Executes};
 use rules::Session;
 
 // One command, as `element::execute` carries it out, on the session behind the reference.
+// The outcome is the number of `Executes`.
 pub fn execute_in_place(
     command: &[u8],
     store: &mut [u8],

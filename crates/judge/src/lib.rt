@@ -28,7 +28,7 @@ pub enum Target {
     InStore(usize),
 }
 
-// What the steps 9 to 13 say of a command, and the counters that it uses up where they accept it.
+// What the steps 9 to 13 say of a command, and the counters that it uses up where they accept it: `Judges` gives both of any command.
 #[derive(Drop)]
 pub struct Judgment {
     pub verdict: Verdict,
@@ -98,6 +98,7 @@ fn judge_count(command: &[u8], object: &StoredObject<'_>, room: usize) -> Verdic
 }
 
 // Of an append at a stored object.
+// Two calls: they differ in the function that judges and in the part of the command.
 fn judge_append(command: &[u8], object: &StoredObject<'_>, room: usize) -> Verdict
     requires { 6 ≤ length command.now }
     ensures { result ≡ own_verdict Append command.now object.now room }
@@ -127,6 +128,7 @@ fn judge_metadata(command: &[u8], object: &StoredObject<'_>, room: usize) -> Ver
 }
 
 // Steps 11 to 13 at a stored object, where access is granted.
+// A match on the rules' actions: closures for them would have to be handed out.
 fn judge_own(asked: Action, command: &[u8], object: &StoredObject<'_>, room: usize) -> Verdict
     requires { InFull asked command.now }
     ensures { result ≡ own_verdict asked command.now object.now room }

@@ -29,7 +29,7 @@ struct Output<'a> {
     ghost within: { at ≤ length bytes.now },
 }
 
-// A digit, 0-9 A-F.
+// A digit, 0-9 A-F. Digits are put by hand: as much as fits stands in the output (`Shows`), which Display does not promise.
 #[tactic(auto, unfolding(rules::specs::Program::digit))]
 fn digit(n: u8) -> u8
     requires { n < 16 }
@@ -117,6 +117,7 @@ impl Output<'_> {
     {
         let mut session = first;
         let mut at = 0;
+        // The next place is read from the bytes.
         while at < input.len() {
             let left = input.len() - at;
             if left < LENGTH {

@@ -1,4 +1,5 @@
-// Numbers in two bytes and in four, copies and zeros in lent slices.
+// Numbers in two bytes and in four, each a line of std with a definition of the rules in its clause, for which a trait over u16, u32 and both
+// orders would be longer; copies and zeros in lent slices.
 #![tactic(auto)]
 
 ghost use Rattle.std.specs.Prelude.{◌≡◌, ◌+◌, ◌<◌, ◌≤◌, length};

@@ -21,6 +21,7 @@ const NUMBER: usize = 4;
 
 pub const BODY: usize = 8;
 
+// The one kind of a fare: an enum of one case would say nothing.
 const FARE_KIND: u16 = 1;
 
 // Limits of a fare's length.
@@ -91,6 +92,7 @@ fn fare_end(content: &[u8], number: u32) -> Option<usize>
     ensures { result ≡ fare_end number (queue_in content.now) }
 {
     let mut at = FARES;
+    // The next place is read from the bytes.
     while at < content.len() {
         let end = at + primitives::little_endian_at(content, at) as usize;
         if primitives::little_endian_4_at(content, at + NUMBER) == number {
@@ -123,6 +125,7 @@ fn put_fare(part: &mut [u8], at: usize, number: u32, body: &[u8])
 
 // Puts a body behind the fares, under the next number. The answer is what is used then.
 #[tactic(auto, using(crate::proofs::Results::next_fits, crate::proofs::Results::append_by))]
+// The part is lent whole: how much of it is used stands in the record's head, and `Holds` and `held` take both.
 pub fn append(part: &mut [u8], used: Length, body: &[u8]) -> Length
     requires { Holds used.0 part.old × (used.0 + fare_head + length body.now ≤ length part.old) × (length body.now ≤ 200)
         × ((held used.0 part.old).next < 0xFFFFFFFF) }

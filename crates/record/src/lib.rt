@@ -46,6 +46,7 @@ pub const SHORTEST: usize = DATA + 1;
 const LARGEST: u16 = 1500;
 
 // The number of the kind that is put, data.
+// The number alone: `Kind` has no u16 for all its cases, as those of the session are above it (`kind_number`).
 const DATA_KIND: u16 = 0x0001;
 
 // Where the last 16 bytes of a slot begin: of a fixed length, they need no loop.

@@ -7,7 +7,7 @@ ghost use Rattle.rules.specs.Verdict.{accepted};
 ghost use Rattle.rules.specs.Chain.{◌refused◌or◌};
 ghost use Rattle.rules.specs.Kinds.{record_kind};
 
-// What the element keeps between commands: application open or closed, LcsG, LcsA, last error.
+// What the element keeps between commands: application open or closed, LcsG, LcsA, last error. States are numbers: a host may hold any byte.
 #[derive(Clone, Copy, Debug, PartialEq, Eq)]
 pub struct Session {
     pub opened: bool,
@@ -125,7 +125,7 @@ pub enum Action {
     Acknowledge,
 }
 
-// The row of the command table that Cmd and Param name.
+// The row of the command table that Cmd and Param name: `Unknown` is a row, with sizes and a ruling in the rules as each other.
 #[derive(Clone, Copy, Debug, PartialEq, Eq)]
 pub enum Row {
     OnObject(Action),
@@ -149,7 +149,7 @@ pub enum Slot {
     Execute,
 }
 
-// The tags of metadata: those of the LcsO, the maximum, the bytes in use, and the expressions for change, read and execute.
+// The tags of metadata, numbers since `field_allowed` and `sent_fields` speak of any byte and of their order: those of the LcsO, the maximum, the bytes in use, and the expressions for change, read and execute.
 pub const STATE_TAG: u8 = 0xC0;
 
 pub const MAXIMUM_TAG: u8 = 0xC4;

@@ -39,6 +39,7 @@ fn turn(
 // Executes a list of commands one after another, each on what the one before left. All commands stand end to end, and so do
 // their rooms, which the host reads in place; there are as many commands as bytes for outcomes. Sizes are usize, so that no
 // command and no room is too long for a list; a missing size is 0, and one that reaches past the end is cut.
+// The parameters are those of `element_run`.
 pub fn run(
     commands: &[u8],
     sizes: &[usize],

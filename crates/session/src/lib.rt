@@ -8,6 +8,7 @@ ghost use Rattle.rules.specs.Step.{raised};
 use rules::{ObjectNumber, Session};
 
 #[tactic(auto, unfolding(rules::specs::Session::with_opened))]
+// One line for each part that others change: the part is the clause.
 pub fn with_opened(opened: bool, session: Session) -> Session
     ensures { result ≡ with_opened opened session }
 {

@@ -60,11 +60,13 @@ pub fn check_store(store: &[u8]) -> bool
 
 // Where the record of an object begins. Numbers rise, so that the search ends at the first that is not below the object's: only
 // record heads are read, and nothing behind that record.
+// A list in lent bytes, of records of any length: there is no map without a heap.
 pub fn find_record(store: &[u8], number: ObjectNumber) -> Option<usize>
     requires { leads number.0 store.now ≡ true }
     ensures { result ≡ found number.0 (way number.0 store.now) }
 {
     let mut at: usize = 0;
+    // The next place is read from the bytes.
     while at < store.len() {
         let next = record::data_end(store, at);
         let here = number_at(store, at);
