@@ -2943,72 +2943,89 @@ static bool expression__is_state(uint8_t v1)
 static bool expression__condition_allowed(slice_u8 v1, usize v2)
 {
     bool result;
-    uint8_t v3;
-    const uint8_t *v4;
-    uint8_t v5;
-    bool v6;
-    bool v7;
+    bool v3;
+    uint8_t v4;
+    usize v5;
+    const uint8_t *v6;
+    uint8_t v7;
     bool v8;
-    uint8_t v9;
-    usize v10;
-    const uint8_t *v11;
-    uint8_t v12;
-    bool v13;
+    bool v9;
+    bool v10;
+    usize v11;
+    const uint8_t *v12;
+    uint8_t v13;
     bool v14;
-    usize v15;
-    const uint8_t *v16;
-    uint8_t v17;
-    v4 = v1.at + v2;
-    v5 = *v4;
-    v3 = v5;
-    switch (v3) {
-    case 64u:
-        v6 = true;
-        goto end1;
+    uint8_t v15;
+    usize v16;
+    usize v17;
+    const uint8_t *v18;
+    uint8_t v19;
+    bool v20;
+    bool v21;
+    usize v22;
+    usize v23;
+    const uint8_t *v24;
+    uint8_t v25;
+    v5 = v2;
+    v6 = v1.at + v5;
+    v7 = *v6;
+    v4 = v7;
+    switch (v4) {
     case 112u:
         goto end2;
     default:
-        v7 = v3 < 224u;
-        if (v7) {
+        v9 = v4 < 224u;
+        if (v9) {
             goto end3;
         }
-        v7 = v3 < 226u;
-        if (v7) {
+        v9 = v4 < 226u;
+        if (v9) {
             goto end2;
         }
         goto end3;
         end3:;
-        v6 = false;
+        v8 = false;
         goto end1;
     }
     end2:;
-    v10 = v2 + 1u;
-    v11 = v1.at + v10;
-    v12 = *v11;
-    v9 = v12;
-    v14 = v9 < 250u;
-    if (v14) {
+    v8 = true;
+    end1:;
+    v3 = v8;
+    v10 = !v3;
+    if (v10) {
+        v11 = v2;
+        v12 = v1.at + v11;
+        v13 = *v12;
+        result = v13 == 64u;
+        return result;
+    }
+    v16 = v2;
+    v17 = v16 + 1u;
+    v18 = v1.at + v17;
+    v19 = *v18;
+    v15 = v19;
+    v21 = v15 < 250u;
+    if (v21) {
         goto end5;
     }
-    v14 = v9 < 253u;
-    if (v14) {
-        v13 = true;
+    v21 = v15 < 253u;
+    if (v21) {
+        v20 = true;
         goto end4;
     }
     goto end5;
     end5:;
-    v13 = false;
+    v20 = false;
     end4:;
-    v8 = v13;
-    if (v8) {
-        v15 = v2 + 2u;
-        v16 = v1.at + v15;
-        v17 = *v16;
-        v8 = expression__is_state(v17);
+    v14 = v20;
+    if (v14) {
+        v22 = v2;
+        v23 = v22 + 2u;
+        v24 = v1.at + v23;
+        v25 = *v24;
+        v14 = expression__is_state(v25);
     }
-    v6 = v8;
-    end1:;
-    result = v6;
+    result = v14;
     return result;
 }
 
@@ -5267,46 +5284,60 @@ static usize answer__put_field(slice_mut_u8 v1, usize v2, uint8_t v3, slice_u8 v
 /* answer::put_sizes */
 static void answer__put_sizes(const record__StoredObject *v1, usize v2, slice_mut_u8 v3)
 {
-    usize v4;
-    usize v5;
+    array_u8_2 v4;
+    array_u8_2 v5;
     array_u8_13 v6;
-    rules__Length v7;
-    usize v8;
-    uint8_t v9;
-    uint8_t v10;
-    usize v11;
+    array_u8_2 v7;
+    rules__Length v8;
+    uint16_t v9;
+    usize v10;
+    uint8_t v11;
     uint8_t v12;
-    usize v13;
-    uint8_t v14;
-    usize v15;
-    uint8_t v16;
-    usize v17;
+    uint8_t *v13;
+    uint8_t *v14;
+    uint8_t v15;
+    uint8_t *v16;
+    uint8_t *v17;
     uint8_t v18;
+    uint8_t *v19;
     uint8_t *v20;
-    slice_mut_u8 v21;
-    const uint8_t *v22;
-    slice_u8 v23;
-    v7 = record__StoredObject__maximum(v1);
-    v4 = v7.f0;
-    v7 = record__StoredObject__used(v1);
-    v5 = v7.f0;
-    v8 = v2 - 2u;
-    v9 = (uint8_t)v8;
-    v10 = record__StoredObject__lcso(v1);
-    v11 = v4 / 256u;
-    v12 = (uint8_t)v11;
-    v13 = v4 % 256u;
-    v14 = (uint8_t)v13;
-    v15 = v5 / 256u;
-    v16 = (uint8_t)v15;
-    v17 = v5 % 256u;
-    v18 = (uint8_t)v17;
-    v6 = (array_u8_13){ { 32u, v9, 192u, 1u, v10, 196u, 2u, v12, v14, 197u, 2u, v16, v18 } };
-    v20 = v3.at;
-    v21 = (slice_mut_u8){ .at = v20, .length = v3.length };
-    v22 = v6.at;
-    v23 = (slice_u8){ .at = v22, .length = 13u };
-    primitives__put(v21, 4u, v23);
+    uint8_t v21;
+    uint8_t *v22;
+    uint8_t *v23;
+    uint8_t v24;
+    uint8_t *v26;
+    slice_mut_u8 v27;
+    const uint8_t *v28;
+    slice_u8 v29;
+    v8 = record__StoredObject__maximum(v1);
+    v9 = (uint16_t)v8.f0;
+    v7 = core__int__u16__to_be_bytes(v9);
+    v4 = v7;
+    v8 = record__StoredObject__used(v1);
+    v9 = (uint16_t)v8.f0;
+    v7 = core__int__u16__to_be_bytes(v9);
+    v5 = v7;
+    v10 = v2 - 2u;
+    v11 = (uint8_t)v10;
+    v12 = record__StoredObject__lcso(v1);
+    v13 = v4.at;
+    v14 = v13 + 0u;
+    v15 = *v14;
+    v16 = v4.at;
+    v17 = v16 + 1u;
+    v18 = *v17;
+    v19 = v5.at;
+    v20 = v19 + 0u;
+    v21 = *v20;
+    v22 = v5.at;
+    v23 = v22 + 1u;
+    v24 = *v23;
+    v6 = (array_u8_13){ { 32u, v11, 192u, 1u, v12, 196u, 2u, v15, v18, 197u, 2u, v21, v24 } };
+    v26 = v3.at;
+    v27 = (slice_mut_u8){ .at = v26, .length = v3.length };
+    v28 = v6.at;
+    v29 = (slice_u8){ .at = v28, .length = 13u };
+    primitives__put(v27, 4u, v29);
     return;
 }
 
