@@ -129,6 +129,7 @@ fn judge_metadata(command: &[u8], object: &StoredObject<'_>, room: usize) -> Ver
 
 // Steps 11 to 13 at a stored object, where access is granted.
 // A match on the rules' actions: closures for them would have to be handed out.
+// `asked` and `command` stand apart, as in `ruling_on` of the rules.
 fn judge_own(asked: Action, command: &[u8], object: &StoredObject<'_>, room: usize) -> Verdict
     requires { InFull asked command.now }
     ensures { result ≡ own_verdict asked command.now object.now room }
