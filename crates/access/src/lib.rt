@@ -17,7 +17,7 @@ use std::marker::Model;
 // The bytes of a condition and of the byte that joins it to the next.
 const JOINED: usize = 4;
 
-// Numbers of counters, at most one for each condition: seen as their list.
+// Numbers of counters, at most one for each condition, in fixed memory: seen as their list.
 #[derive(Clone, Drop)]
 pub struct Counters {
     count: usize,
@@ -72,6 +72,7 @@ impl Counters {
 }
 
 // The number of the counter that a condition names, if it names one.
+// A condition is a slice: the last of an expression has three bytes, the others four.
 #[tactic(auto, unfolding(expression::specs::Conditions::condition_at, rules::specs::Expression::names_counter, rules::specs::Expression::counter_number))]
 fn counter_named(condition: &[u8]) -> Option<u16>
     requires { 3 ≤ length condition.now }
@@ -188,6 +189,7 @@ impl Sight<'_> {
 
 // The counters that an action on a stored object uses up, if it is granted: a plain write to a queue is not, whatever its change
 // expression says.
+// A match and no closures: the actions are complete, and `rt ci` refuses a function that hands out a closure.
 #[tactic(auto, using(crate::proofs::Granting::asks_read, crate::proofs::Granting::asks_change, crate::proofs::Granting::write_asks_change, crate::proofs::Granting::metadata_free, crate::proofs::Granting::queue_closed, crate::proofs::Granting::slot_grants))]
 pub fn granted(
     asked: Action,

@@ -266,6 +266,7 @@ impl<'a> StoredObject<'a> {
     }
 
     // Whether it is a counter.
+    // One match on the kind each: a test of a given kind would say which at each caller.
     pub fn is_counter(&self) -> bool
         ensures { result ≡ is_counter self.now.kind }
     {
