@@ -73,26 +73,6 @@ typedef struct core__option__Option__usize {
     } as;
 } core__option__Option__usize;
 
-/* core::ops::ControlFlow<core::option::NoValue, &[u8]> */
-typedef struct core__ops__ControlFlow__NoValue__slice_u8 {
-    uint8_t tag;
-    union {
-        struct {
-            slice_u8 f1;
-        } v0;
-    } as;
-} core__ops__ControlFlow__NoValue__slice_u8;
-
-/* core::option::Option<&[u8]> */
-typedef struct core__option__Option__slice_u8 {
-    uint8_t tag;
-    union {
-        struct {
-            slice_u8 f1;
-        } v1;
-    } as;
-} core__option__Option__slice_u8;
-
 /* rules::Refusal */
 typedef struct rules__Refusal {
     uint8_t tag;
@@ -139,51 +119,9 @@ typedef struct core__result__Result__u8__AllocError {
     } as;
 } core__result__Result__u8__AllocError;
 
-/* core::iter::adapters::Enumerate<core::iter::slices::Chunks<u8>> */
-typedef struct core__iter__adapters__Enumerate__Chunks__u8 {
-    core__iter__slices__Chunks__u8 f0;
-    usize f1;
-} core__iter__adapters__Enumerate__Chunks__u8;
-
 typedef struct array_u8_2 {
     uint8_t at[2];
 } array_u8_2;
-
-/* (,)<u64, &[u8]> */
-typedef struct tuple2__usize__slice_u8 {
-    usize f0;
-    slice_u8 f1;
-} tuple2__usize__slice_u8;
-
-/* core::option::Option<(,)<u64, &[u8]>> */
-typedef struct core__option__Option__tuple2__usize__slice_u8 {
-    uint8_t tag;
-    union {
-        struct {
-            tuple2__usize__slice_u8 f1;
-        } v1;
-    } as;
-} core__option__Option__tuple2__usize__slice_u8;
-
-typedef struct array_u16_7 {
-    uint16_t at[7];
-} array_u16_7;
-
-/* access::Counters */
-typedef struct access__Counters {
-    usize f0;
-    array_u16_7 f1;
-} access__Counters;
-
-/* core::option::Option<access::Counters> */
-typedef struct core__option__Option__access__Counters {
-    uint8_t tag;
-    union {
-        struct {
-            access__Counters f1;
-        } v1;
-    } as;
-} core__option__Option__access__Counters;
 
 /* rules::ObjectNumber */
 typedef struct rules__ObjectNumber {
@@ -252,6 +190,16 @@ typedef struct rules__Session {
     uint8_t f2;
     uint8_t f3;
 } rules__Session;
+
+/* core::option::Option<&[u8]> */
+typedef struct core__option__Option__slice_u8 {
+    uint8_t tag;
+    union {
+        struct {
+            slice_u8 f1;
+        } v1;
+    } as;
+} core__option__Option__slice_u8;
 
 typedef struct slice_mut_u8 {
     uint8_t *at;
@@ -406,6 +354,26 @@ typedef struct access__Sight {
     uint8_t f2;
 } access__Sight;
 
+typedef struct array_u16_7 {
+    uint16_t at[7];
+} array_u16_7;
+
+/* access::Counters */
+typedef struct access__Counters {
+    usize f0;
+    array_u16_7 f1;
+} access__Counters;
+
+/* core::option::Option<access::Counters> */
+typedef struct core__option__Option__access__Counters {
+    uint8_t tag;
+    union {
+        struct {
+            access__Counters f1;
+        } v1;
+    } as;
+} core__option__Option__access__Counters;
+
 /* judge::Judgment */
 typedef struct judge__Judgment {
     core__result__Result__unit__rules__Refusal f0;
@@ -430,11 +398,9 @@ static slice_u8 core__array__array_N_T__as_slice__u8__16(const uint8_t *v1);
 static bool core__cmp__slices__ElementMismatchPlaceTest__at__u8(const core__cmp__slices__ElementMismatch__u8 *v1, usize v2);
 static bool core__slice__reads__ElementMatchPlaceTest__at__u16(const core__slice__reads__ElementMatch__u16 *v1, usize v2);
 static core__ops__ControlFlow__NoValue__usize core__option__OptionTry__branch__usize(core__option__Option__usize v1);
-static core__ops__ControlFlow__NoValue__slice_u8 core__option__OptionTry__branch__slice_u8(core__option__Option__slice_u8 v1);
 static core__ops__ControlFlow__ErrResidual__rules__Refusal__unit core__result__ResultTry__branch__unit__rules__Refusal(core__result__Result__unit__rules__Refusal v1);
 static core__iter__slices__Chunks__u8 core__iter__slices__slice_T__chunks__u8(slice_u8 v1, usize v2);
 static core__result__Result__u8__AllocError core__clone__U8Clone__clone(const uint8_t *v1);
-static core__iter__adapters__Enumerate__Chunks__u8 core__iter__base__Iterator__enumerate__Chunks__u8__slice_u8(core__iter__slices__Chunks__u8 v1);
 static bool core__cmp__numbers__U16PartialEq__eq(const uint16_t *v1, const uint16_t *v2);
 static bool core__cmp__numbers__U8PartialEq__eq(const uint8_t *v1, const uint8_t *v2);
 static usize core__slice__scan__first_by_one__ElementMismatch__u8(const core__cmp__slices__ElementMismatch__u8 *v1, usize v2, usize v3);
@@ -447,13 +413,10 @@ static uint16_t core__int__u16__from_be_bytes(array_u8_2 v1);
 static uint32_t core__int__u32__from_be_bytes(array_u8_4 v1);
 static uint16_t core__int__u16__from_le_bytes(array_u8_2 v1);
 static uint32_t core__int__u32__from_le_bytes(array_u8_4 v1);
-static core__option__Option__tuple2__usize__slice_u8 core__option__OptionFromResidualNoValue__from_residual__tuple2__usize__slice_u8(void);
-static core__option__Option__access__Counters core__option__OptionFromResidualNoValue__from_residual__access__Counters(void);
 static core__option__Option__judge__Target core__option__OptionFromResidualNoValue__from_residual__judge__Target(void);
 static core__result__Result__unit__rules__Refusal core__result__ResultFromResidualErrResidual__from_residual__unit__rules__Refusal__rules__Refusal(core__result__ErrResidual__rules__Refusal v1);
 static core__option__Option__ref_size core__slice__slice_T__get__size__usize__ref_usize(slice_usize v1, usize v2);
 static rules__Session core__convert__AnyInto__into__firmware__HostSession__rules__Session(element_session v1);
-static core__iter__adapters__Enumerate__Chunks__u8 core__iter__traits__AnyIntoIterator__into_iter__Enumerate__Chunks__u8__tuple2__usize__slice_u8(core__iter__adapters__Enumerate__Chunks__u8 v1);
 static core__iter__slices__Chunks__u8 core__iter__traits__AnyIntoIterator__into_iter__Chunks__u8__slice_u8(core__iter__slices__Chunks__u8 v1);
 static bool core__slice__slice_T__is_empty__u8(slice_u8 v1);
 static uint32_t core__int__u32__max(uint32_t v1, uint32_t v2);
@@ -464,7 +427,6 @@ static usize core__int__usize__min(usize v1, usize v2);
 static bool core__slice__scan__any_in_quarters__ElementMismatch__u8(const core__cmp__slices__ElementMismatch__u8 *v1, usize v2, usize v3);
 static bool core__slice__scan__any_in_quarters__ElementMatch__u16(const core__slice__reads__ElementMatch__u16 *v1, usize v2, usize v3);
 static bool core__cmp__PartialEq__ne__slice_u8(const slice_u8 *v1, const slice_u8 *v2);
-static core__option__Option__tuple2__usize__slice_u8 core__iter__adapters__EnumerateIterator__next__Chunks__u8__slice_u8(core__iter__adapters__Enumerate__Chunks__u8 *v1);
 static core__option__Option__slice_u8 core__iter__slices__ChunksIterator__next__u8(core__iter__slices__Chunks__u8 *v1);
 static core__option__Option__ref_size core__slice__index__UsizeSliceIndexRefSlice__pick__size(usize v1, slice_usize v2);
 static uint32_t core__int__u32__saturating_add(uint32_t v1, uint32_t v2);
@@ -648,11 +610,10 @@ static access__Counters access__Counters__none(void);
 static slice_u16 access__Counters__numbers(const access__Counters *v1);
 static void access__Counters__push(access__Counters *v1, uint16_t v2);
 static void access__Counters__push_named(access__Counters *v1, slice_u8 v2);
-static access__Counters access__group_counters(slice_u8 v1);
 static uint8_t access__Sight__state_of(const access__Sight *v1, uint8_t v2);
 static bool access__Sight__state_holds(const access__Sight *v1, slice_u8 v2);
 static bool access__Sight__condition_holds(const access__Sight *v1, slice_u8 v2);
-static core__option__Option__usize access__Sight__deciding_group(const access__Sight *v1, slice_u8 v2);
+static core__option__Option__access__Counters access__Sight__deciding_group(const access__Sight *v1, slice_u8 v2);
 static core__option__Option__access__Counters access__Sight__grant_of(const access__Sight *v1, slice_u8 v2);
 static core__option__Option__access__Counters access__granted(rules__Action v1, const record__StoredObject *v2, slice_u8 v3, rules__Session v4);
 static core__option__Option__judge__Target judge__find_target(slice_u8 v1, slice_u8 v2, rules__Session v3);
@@ -931,28 +892,6 @@ static core__ops__ControlFlow__NoValue__usize core__option__OptionTry__branch__u
     return result;
 }
 
-/* core::option::OptionTry::branch<&[u8]> */
-static core__ops__ControlFlow__NoValue__slice_u8 core__option__OptionTry__branch__slice_u8(core__option__Option__slice_u8 v1)
-{
-    core__ops__ControlFlow__NoValue__slice_u8 result;
-    slice_u8 v2;
-    core__ops__ControlFlow__NoValue__slice_u8 v3;
-    slice_u8 v4;
-    switch (v1.tag) {
-    case 1u:
-        v2 = v1.as.v1.f1;
-        v4 = v2;
-        v3 = (core__ops__ControlFlow__NoValue__slice_u8){ .tag = 0u, .as.v0.f1 = v4 };
-        break;
-    case 0u:
-    default:
-        v3 = (core__ops__ControlFlow__NoValue__slice_u8){ .tag = 1u };
-        break;
-    }
-    result = v3;
-    return result;
-}
-
 /* core::result::ResultTry::branch<(), rules::Refusal> */
 static core__ops__ControlFlow__ErrResidual__rules__Refusal__unit core__result__ResultTry__branch__unit__rules__Refusal(core__result__Result__unit__rules__Refusal v1)
 {
@@ -992,16 +931,6 @@ static core__result__Result__u8__AllocError core__clone__U8Clone__clone(const ui
     uint8_t v2;
     v2 = *v1;
     result = (core__result__Result__u8__AllocError){ .tag = 0u, .as.v0.f1 = v2 };
-    return result;
-}
-
-/* core::iter::base::Iterator::enumerate<core::iter::slices::Chunks<u8>, &[u8]> */
-static core__iter__adapters__Enumerate__Chunks__u8 core__iter__base__Iterator__enumerate__Chunks__u8__slice_u8(core__iter__slices__Chunks__u8 v1)
-{
-    core__iter__adapters__Enumerate__Chunks__u8 result;
-    core__iter__slices__Chunks__u8 v2;
-    v2 = v1;
-    result = (core__iter__adapters__Enumerate__Chunks__u8){ .f0 = v2, .f1 = 0u };
     return result;
 }
 
@@ -1319,22 +1248,6 @@ static uint32_t core__int__u32__from_le_bytes(array_u8_4 v1)
     return result;
 }
 
-/* core::option::OptionFromResidualNoValue::from_residual<(,)<u64, &[u8]>> */
-static core__option__Option__tuple2__usize__slice_u8 core__option__OptionFromResidualNoValue__from_residual__tuple2__usize__slice_u8(void)
-{
-    core__option__Option__tuple2__usize__slice_u8 result;
-    result = (core__option__Option__tuple2__usize__slice_u8){ .tag = 0u };
-    return result;
-}
-
-/* core::option::OptionFromResidualNoValue::from_residual<access::Counters> */
-static core__option__Option__access__Counters core__option__OptionFromResidualNoValue__from_residual__access__Counters(void)
-{
-    core__option__Option__access__Counters result;
-    result = (core__option__Option__access__Counters){ .tag = 0u };
-    return result;
-}
-
 /* core::option::OptionFromResidualNoValue::from_residual<judge::Target> */
 static core__option__Option__judge__Target core__option__OptionFromResidualNoValue__from_residual__judge__Target(void)
 {
@@ -1372,14 +1285,6 @@ static rules__Session core__convert__AnyInto__into__firmware__HostSession__rules
     element_session v2;
     v2 = v1;
     result = firmware__SessionFromHostSession__from(v2);
-    return result;
-}
-
-/* core::iter::traits::AnyIntoIterator::into_iter<core::iter::adapters::Enumerate<core::iter::slices::Chunks<u8>>, (,)<u64, &[u8]>> */
-static core__iter__adapters__Enumerate__Chunks__u8 core__iter__traits__AnyIntoIterator__into_iter__Enumerate__Chunks__u8__tuple2__usize__slice_u8(core__iter__adapters__Enumerate__Chunks__u8 v1)
-{
-    core__iter__adapters__Enumerate__Chunks__u8 result;
-    result = v1;
     return result;
 }
 
@@ -1544,45 +1449,6 @@ static bool core__cmp__PartialEq__ne__slice_u8(const slice_u8 *v1, const slice_u
     bool v3;
     v3 = core__cmp__slices__RefSlicePartialEq__eq__u8(v1, v2);
     result = !v3;
-    return result;
-}
-
-/* core::iter::adapters::EnumerateIterator::next<core::iter::slices::Chunks<u8>, &[u8]> */
-static core__option__Option__tuple2__usize__slice_u8 core__iter__adapters__EnumerateIterator__next__Chunks__u8__slice_u8(core__iter__adapters__Enumerate__Chunks__u8 *v1)
-{
-    core__option__Option__tuple2__usize__slice_u8 result;
-    slice_u8 v2;
-    slice_u8 v3;
-    usize v5;
-    core__ops__ControlFlow__NoValue__slice_u8 v6;
-    core__option__Option__slice_u8 v7;
-    core__iter__slices__Chunks__u8 *v8;
-    slice_u8 v9;
-    usize v10;
-    usize v11;
-    slice_u8 v12;
-    tuple2__usize__slice_u8 v13;
-    v8 = &v1->f0;
-    v7 = core__iter__slices__ChunksIterator__next__u8(v8);
-    v6 = core__option__OptionTry__branch__slice_u8(v7);
-    switch (v6.tag) {
-    case 0u:
-        v3 = v6.as.v0.f1;
-        v9 = v3;
-        break;
-    case 1u:
-    default:
-        result = core__option__OptionFromResidualNoValue__from_residual__tuple2__usize__slice_u8();
-        return result;
-    }
-    v2 = v9;
-    v5 = v1->f1;
-    v10 = v1->f1;
-    v11 = v10 + 1u;
-    v1->f1 = v11;
-    v12 = v2;
-    v13 = (tuple2__usize__slice_u8){ .f0 = v5, .f1 = v12 };
-    result = (core__option__Option__tuple2__usize__slice_u8){ .tag = 1u, .as.v1.f1 = v13 };
     return result;
 }
 
@@ -6641,57 +6507,6 @@ static void access__Counters__push_named(access__Counters *v1, slice_u8 v2)
     return;
 }
 
-/* access::group_counters */
-static access__Counters access__group_counters(slice_u8 v1)
-{
-    access__Counters result;
-    access__Counters v2;
-    core__iter__slices__Chunks__u8 v3;
-    core__iter__slices__Chunks__u8 v4;
-    slice_u8 v5;
-    slice_u8 v6;
-    access__Counters v7;
-    core__iter__slices__Chunks__u8 v8;
-    core__iter__slices__Chunks__u8 v9;
-    core__iter__slices__Chunks__u8 v10;
-    core__option__Option__slice_u8 v11;
-    core__iter__slices__Chunks__u8 *v12;
-    slice_u8 v13;
-    access__Counters *v15;
-    bool v16;
-    v7 = access__Counters__none();
-    v2 = v7;
-    v8 = core__iter__slices__slice_T__chunks__u8(v1, 4u);
-    v3 = v8;
-    v10 = v3;
-    v9 = core__iter__traits__AnyIntoIterator__into_iter__Chunks__u8__slice_u8(v10);
-    v4 = v9;
-    for (;;) {
-        v12 = &v4;
-        v11 = core__iter__slices__ChunksIterator__next__u8(v12);
-        switch (v11.tag) {
-        case 1u:
-            v5 = v11.as.v1.f1;
-            v13 = v5;
-            break;
-        case 0u:
-        default:
-            goto end1;
-        }
-        v6 = v13;
-        v15 = &v2;
-        access__Counters__push_named(v15, v6);
-        v16 = access__ends_group(v6);
-        if (v16) {
-            result = v2;
-            return result;
-        }
-    }
-    end1:;
-    result = v2;
-    return result;
-}
-
 /* access::Sight::state_of */
 static uint8_t access__Sight__state_of(const access__Sight *v1, uint8_t v2)
 {
@@ -6773,70 +6588,71 @@ static bool access__Sight__condition_holds(const access__Sight *v1, slice_u8 v2)
 }
 
 /* access::Sight::deciding_group */
-static core__option__Option__usize access__Sight__deciding_group(const access__Sight *v1, slice_u8 v2)
+static core__option__Option__access__Counters access__Sight__deciding_group(const access__Sight *v1, slice_u8 v2)
 {
-    core__option__Option__usize result;
-    usize v3;
+    core__option__Option__access__Counters result;
+    access__Counters v3;
     bool v4;
-    core__iter__adapters__Enumerate__Chunks__u8 v5;
-    core__iter__adapters__Enumerate__Chunks__u8 v6;
-    tuple2__usize__slice_u8 v7;
-    usize v8;
-    slice_u8 v9;
-    core__iter__adapters__Enumerate__Chunks__u8 v10;
+    core__iter__slices__Chunks__u8 v5;
+    core__iter__slices__Chunks__u8 v6;
+    slice_u8 v7;
+    slice_u8 v8;
+    access__Counters v9;
+    core__iter__slices__Chunks__u8 v10;
     core__iter__slices__Chunks__u8 v11;
-    core__iter__adapters__Enumerate__Chunks__u8 v12;
-    core__iter__adapters__Enumerate__Chunks__u8 v13;
-    tuple2__usize__slice_u8 v14;
-    core__option__Option__tuple2__usize__slice_u8 v15;
-    core__iter__adapters__Enumerate__Chunks__u8 *v16;
-    tuple2__usize__slice_u8 v17;
-    bool v18;
+    core__iter__slices__Chunks__u8 v12;
+    core__option__Option__slice_u8 v13;
+    core__iter__slices__Chunks__u8 *v14;
+    slice_u8 v15;
+    bool v16;
+    access__Counters *v18;
     bool v19;
     bool v20;
-    usize v21;
-    v3 = 0u;
+    access__Counters v21;
+    access__Counters v22;
+    v9 = access__Counters__none();
+    v3 = v9;
     v4 = true;
-    v11 = core__iter__slices__slice_T__chunks__u8(v2, 4u);
-    v10 = core__iter__base__Iterator__enumerate__Chunks__u8__slice_u8(v11);
+    v10 = core__iter__slices__slice_T__chunks__u8(v2, 4u);
     v5 = v10;
-    v13 = v5;
-    v12 = core__iter__traits__AnyIntoIterator__into_iter__Enumerate__Chunks__u8__tuple2__usize__slice_u8(v13);
-    v6 = v12;
+    v12 = v5;
+    v11 = core__iter__traits__AnyIntoIterator__into_iter__Chunks__u8__slice_u8(v12);
+    v6 = v11;
     for (;;) {
-        v16 = &v6;
-        v15 = core__iter__adapters__EnumerateIterator__next__Chunks__u8__slice_u8(v16);
-        switch (v15.tag) {
+        v14 = &v6;
+        v13 = core__iter__slices__ChunksIterator__next__u8(v14);
+        switch (v13.tag) {
         case 1u:
-            v7 = v15.as.v1.f1;
-            v17 = v7;
+            v7 = v13.as.v1.f1;
+            v15 = v7;
             break;
         case 0u:
         default:
             goto end1;
         }
-        v14 = v17;
-        v8 = v14.f0;
-        v9 = v14.f1;
-        v18 = v4;
-        if (v18) {
-            v18 = access__Sight__condition_holds(v1, v9);
+        v8 = v15;
+        v16 = v4;
+        if (v16) {
+            v16 = access__Sight__condition_holds(v1, v8);
         }
-        v4 = v18;
-        v19 = access__ends_group(v9);
+        v4 = v16;
+        v18 = &v3;
+        access__Counters__push_named(v18, v8);
+        v19 = access__ends_group(v8);
         if (v19) {
             v20 = v4;
             if (v20) {
-                result = (core__option__Option__usize){ .tag = 1u, .as.v1.f1 = v3 };
+                v21 = v3;
+                result = (core__option__Option__access__Counters){ .tag = 1u, .as.v1.f1 = v21 };
                 return result;
             }
-            v21 = (usize)4u * v8;
-            v3 = v21 + 4u;
+            v22 = access__Counters__none();
+            v3 = v22;
             v4 = true;
         }
     }
     end1:;
-    result = (core__option__Option__usize){ .tag = 0u };
+    result = (core__option__Option__access__Counters){ .tag = 0u };
     return result;
 }
 
@@ -6845,63 +6661,35 @@ static core__option__Option__access__Counters access__Sight__grant_of(const acce
 {
     core__option__Option__access__Counters result;
     const uint8_t *v3;
-    usize v4;
-    usize v5;
-    core__option__Option__access__Counters v7;
+    core__option__Option__access__Counters v4;
+    bool v5;
+    const uint8_t *v6;
+    uint8_t v7;
     bool v8;
-    const uint8_t *v9;
-    uint8_t v10;
-    bool v11;
-    access__Counters v12;
-    core__ops__ControlFlow__NoValue__usize v13;
-    core__option__Option__usize v14;
-    usize v15;
-    access__Counters v16;
-    const uint8_t *v17;
-    usize v18;
-    const uint8_t *v19;
-    slice_u8 v20;
-    v8 = v2.length < 1u;
-    if (v8) {
+    access__Counters v9;
+    v5 = v2.length < 1u;
+    if (v5) {
         goto end2;
     }
-    v8 = v2.length < 2u;
-    if (v8) {
-        v9 = v2.at + 0u;
-        v3 = v9;
-        v10 = *v3;
-        v11 = v10 == 0u;
-        if (v11) {
-            v12 = access__Counters__none();
-            v7 = (core__option__Option__access__Counters){ .tag = 1u, .as.v1.f1 = v12 };
+    v5 = v2.length < 2u;
+    if (v5) {
+        v6 = v2.at + 0u;
+        v3 = v6;
+        v7 = *v3;
+        v8 = v7 == 0u;
+        if (v8) {
+            v9 = access__Counters__none();
+            v4 = (core__option__Option__access__Counters){ .tag = 1u, .as.v1.f1 = v9 };
             goto end1;
         }
-        v7 = (core__option__Option__access__Counters){ .tag = 0u };
+        v4 = (core__option__Option__access__Counters){ .tag = 0u };
         goto end1;
     }
     goto end2;
     end2:;
-    v14 = access__Sight__deciding_group(v1, v2);
-    v13 = core__option__OptionTry__branch__usize(v14);
-    switch (v13.tag) {
-    case 0u:
-        v5 = v13.as.v0.f1;
-        v15 = v5;
-        break;
-    case 1u:
-    default:
-        result = core__option__OptionFromResidualNoValue__from_residual__access__Counters();
-        return result;
-    }
-    v4 = v15;
-    v17 = v2.at + v4;
-    v18 = v2.length - v4;
-    v19 = v17;
-    v20 = (slice_u8){ .at = v19, .length = v18 };
-    v16 = access__group_counters(v20);
-    v7 = (core__option__Option__access__Counters){ .tag = 1u, .as.v1.f1 = v16 };
+    v4 = access__Sight__deciding_group(v1, v2);
     end1:;
-    result = v7;
+    result = v4;
     return result;
 }
 

@@ -6,8 +6,8 @@ use mathlib.Core.Logic.{◌⊎◌}
 use mathlib.Core.List.{List, [], ◌∷◌, ◌++◌, append-nil, append_assoc}
 use native.Mathlib.Omega.{arith}
 use lib.Dec.{eqb}
-use lib.ListN.{length, get_or, drop, length-append, length-drop, drop_of_length-le}
-use lib.Seq.{drop_at, drop-drop}
+use lib.ListN.{length, get_or, drop, length-append, drop_of_length-le}
+use lib.Seq.{drop_at}
 use Rattle.std.specs.Prelude.{if◌then◌else◌}
 use Rattle.std.proofs.Common.{inl, inr, lt-ltb, le-ltb}
 use Rattle.std.proofs.lemmas.Bool.{cases_lt}
@@ -23,11 +23,11 @@ use Rattle.rules.specs.Object.{Object, is, of_session, object_allowed, expressio
 use Rattle.rules.specs.Access.{Seen, condition_holds, group_holds, condition_counters, group_counters, Grant, grant_if, groups_grant, grant, asked, access}
 use Rattle.laws.proofs.Facts.{storable, allowed}
 use Rattle.laws.proofs.Tests.{and_assoc}
-use Rattle.laws.proofs.Expressions.{groups_length, groups_two, expression_length, read_bytes}
+use Rattle.laws.proofs.Expressions.{groups_length, expression_length, read_bytes}
 use Rattle.expression.specs.Conditions.{condition_at}
 use Rattle.expression.proofs.Forms.{read_allowed, groups_of}
-use Rattle.access.specs.Groups.{ends_group, first_group, IsGroup}
-use Rattle.access.proofs.Chunks.{last_chunk, joined_chunk, total, rest_whole}
+use Rattle.access.specs.Groups.{ends_group, first_group}
+use Rattle.access.proofs.Chunks.{last_chunk, joined_chunk, total}
 
 -- `deciding_group`: what the rest grants -----------------------------------------------------------------------------------
 
@@ -60,6 +60,10 @@ module _ (s x r : List ℕ) (parts : s ≡ x ++ r) (size : length x ≡ min 4 (l
     | inl h ↦ none_left h ∙ sym (drop_of_length-le s {i = 4} (omega (arith, size, h)))
     | inr h ↦ sym (ap (drop 4) parts ∙ drop_at x r 4 (omega (arith, size, h)))
   ]
+
+  -- what is left needs no more room, with no counter listed
+  pub room_next : (n : ℕ) → 4 * n + length s ≤ slot_size - 1 → length r ≤ slot_size - 1
+  room_next n room = omega (arith, total s x r parts size whole, room)
 
   short_ends : length x < 4 → ends_group x ≡ true
   short_ends h = rw (lt-ltb (length x) 4 h)
@@ -95,21 +99,6 @@ module _ (s x r : List ℕ) (parts : s ≡ x ++ r) (size : length x ≡ min 4 (l
 
       pub same_group : ends_group x ≡ false → w ≡ rest_grant v l held mine r
       same_group f = rw f at taken
-
--- s begins after n chunks of the part
-module _ (part s x r : List ℕ) (parts : s ≡ x ++ r) (size : length x ≡ min 4 (length s)) (whole : length s % 4 ≡ 3)
-    (n k : ℕ) (e : k ≡ n) (there : s ≡ drop (4 * n) part) where
-  pub rest_there : r ≡ drop (4 * k + 4) part
-  rest_there = rest_is s x r parts size whole ∙ rw (there, e) (drop-drop 4 (4 * n) part)
-
-  pub rest_next : (m : ℕ) → m ≡ n + 1 → r ≡ drop (4 * m) part
-  rest_next m f = rest_there ∙ ap (λ i. drop i part) (omega (arith, e, f))
-
-  pub next_starts : length part ≤ slot_size - 1 → 0 < length r → IsGroup (4 * k + 4) part
-  next_starts most some =
-      let long : length r ≡ length part - (4 * k + 4) = ap length rest_there ∙ length-drop (4 * k + 4) part in
-      let odd = rest_whole s x r parts size whole some in
-      (omega (arith, long, odd), omega (arith, long, odd), most)
 
 pub nothing_left : (v : Seen) (l : ℕ) (w : Grant) (t : Bool) (mine s : List ℕ) → w ≡ rest_grant v l t mine s → length s ≡ 0 → w ≡ grant_if false []
 unfolding rest_grant
@@ -163,14 +152,13 @@ module _ (v : Seen) (l : ℕ) where
       go (when gs) b = absurd (omega (arith, groups_length gs, ap length b))
 
 -- the conditions fill the bytes
-pub whole_group : (s : List ℕ) → is_some (expression s) ≡ true → (length s ≡ 1 → ⊥) → IsGroup 0 s
-whole_group s h n =
+pub conditions_fill : (s : List ℕ) → is_some (expression s) ≡ true → (length s ≡ 1 → ⊥) → (length s % 4 ≡ 3) × (length s ≤ slot_size - 1)
+conditions_fill s h n =
     let (gs, q, b) = groups_of s h n in
     let (k, e) = read_allowed s h in
-    let most : length s ≤ slot_size - 1 = omega (arith, expression_length (read_expression s) k, ap length e) in
-    (omega (arith, groups_length gs, groups_two gs, ap length b), omega (arith, groups_length gs, ap length b), most)
+    (omega (arith, groups_length gs, ap length b), omega (arith, expression_length (read_expression s) k, ap length e))
 
--- `group_counters` -----------------------------------------------------------------------------------------------------------
+-- the counters of a group, condition by condition ---------------------------------------------------------------------------
 
 at_most_one : (c : Condition) → length (condition_counters c) ≤ 1
 unfolding condition_counters
@@ -206,10 +194,6 @@ module _ (s x r : List ℕ) (parts : s ≡ x ++ r) (size : length x ≡ min 4 (l
 
   pub group_on : ends_group x ≡ false → w ≡ ms ++ first_group r
   group_on h = rw h at group_opened
-
-pub group_all : (w ns s : List ℕ) → w ≡ ns ++ first_group s → length s ≡ 0 → ns ≡ w
-unfolding first_group
-group_all w ns s e h = sym (e ∙ ap (λ b. ns ++ first_group b) (nil_from_length s h) ∙ append-nil ns)
 
 -- `granted` --------------------------------------------------------------------------------------------------------------------
 

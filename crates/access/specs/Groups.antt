@@ -1,8 +1,7 @@
 -- Groups in the bytes of an expression.
-use Rattle.std.specs.Prelude.{ℕ, ◌+◌, ◌-◌, ◌%◌, ◌≤◌, ◌≡◌, Bool, true, false, ◌||◌, List, [], ◌∷◌, ◌++◌, eqb, ltb, length, get_or, drop, if◌then◌else◌, Option, Some, None}
-use Rattle.rules.specs.Found.{Found}
-use Rattle.rules.specs.Expression.{Condition, names_counter, counter_number, slot_size}
-use Rattle.rules.specs.Access.{condition_counters, Grant, grant_if}
+use Rattle.std.specs.Prelude.{ℕ, Bool, ◌||◌, List, [], ◌∷◌, ◌++◌, eqb, ltb, length, get_or, if◌then◌else◌, Option, Some, None}
+use Rattle.rules.specs.Expression.{Condition, names_counter, counter_number}
+use Rattle.rules.specs.Access.{condition_counters}
 
 -- the number of the counter that a condition names, if it names one
 abbrev pub counter_named : Condition → Option ℕ
@@ -21,12 +20,3 @@ first_group (a ∷ b ∷ c ∷ []) = condition_counters (record { subject = a; r
 first_group (a ∷ b ∷ []) = []
 first_group (a ∷ []) = []
 first_group [] = []
-
--- conditions stand from p to the end: three bytes for the last, four for each before it
-abbrev pub IsGroup : ℕ → List ℕ → Type 0
-IsGroup p b = (p + 3 ≤ length b) × ((length b + 1 - p) % 4 ≡ 0) × (length b ≤ slot_size - 1)
-
--- the group at a place decides what is granted; none does
-abbrev pub Decides : Found → List ℕ → Grant → Type 0
-Decides (Some p) b g = IsGroup p b × (g ≡ grant_if true (first_group (drop p b)))
-Decides None b g = g ≡ grant_if false []

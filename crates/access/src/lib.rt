@@ -8,7 +8,7 @@ ghost use Rattle.rules.specs.Layout.{unpack, find};
 ghost use Rattle.rules.specs.Access.{seen, seen_in, present, state_holds, usable, condition_holds, condition_counters, grant, access};
 ghost use Rattle.expression.specs.Conditions.{condition_at};
 ghost use Rattle.access.specs.Told.{told};
-ghost use Rattle.access.specs.Groups.{counter_named, ends_group, first_group, IsGroup, Decides};
+ghost use Rattle.access.specs.Groups.{counter_named, ends_group};
 
 use record::StoredObject;
 use rules::{Action, ObjectNumber, Session, Slot};
@@ -17,8 +17,8 @@ use std::marker::Model;
 // The bytes of a condition and of the byte that joins it to the next.
 const JOINED: usize = 4;
 
-// Numbers of counters, at most one for each condition: seen as their list.
-#[derive(Drop)]
+// Numbers of counters, at most one for each condition, in fixed memory: seen as their list.
+#[derive(Clone, Drop)]
 pub struct Counters {
     count: usize,
     numbers: [u16; expression::CONDITIONS],
@@ -45,7 +45,7 @@ impl Counters {
         }
     }
 
-    fn push(&mut self, number: u16)
+    pub fn push(&mut self, number: u16)
         requires { length self.old < most_conditions slot_size }
         ensures { self.new ≡ self.old ++ number ∷ [] }
     {
@@ -72,6 +72,7 @@ impl Counters {
 }
 
 // The number of the counter that a condition names, if it names one.
+// A condition is a slice: the last of an expression has three bytes, the others four.
 #[tactic(auto, unfolding(expression::specs::Conditions::condition_at, rules::specs::Expression::names_counter, rules::specs::Expression::counter_number))]
 fn counter_named(condition: &[u8]) -> Option<u16>
     requires { 3 ≤ length condition.now }
@@ -89,21 +90,6 @@ fn ends_group(condition: &[u8]) -> bool
     ensures { result ≡ ends_group condition.now }
 {
     condition.len() < JOINED || condition[3] == expression::OR
-}
-
-// The counters that the first group of these bytes names.
-fn group_counters(part: &[u8]) -> Counters
-    requires { IsGroup 0 part.now }
-    ensures { result ≡ first_group part.now }
-{
-    let mut counters = Counters::none();
-    for condition in part.chunks(JOINED) {
-        counters.push_named(condition);
-        if ends_group(condition) {
-            return counters;
-        }
-    }
-    counters
 }
 
 // What the conditions of an expression see: a sound store, the session, and the LcsO of the object.
@@ -167,20 +153,21 @@ impl Sight<'_> {
         }
     }
 
-    // Where the first true group from the left begins: FE ends a group, so and binds first.
-    fn deciding_group(&self, part: &[u8]) -> Option<usize>
+    // The counters of the first true group from the left, if one is true: FE ends a group, so and binds first.
+    fn deciding_group(&self, part: &[u8]) -> Option<Counters>
         requires { (is_some (expression part.now) ≡ true) × (length part.now ≡ 1 → ⊥) }
-        ensures { Decides result part.now (grant (seen_in self.now.store.now self.now.session) self.now.lcso (read_expression part.now)) }
+        ensures { told result ≡ grant (seen_in self.now.store.now self.now.session) self.now.lcso (read_expression part.now) }
     {
-        let mut start: usize = 0;
+        let mut counters = Counters::none();
         let mut held = true;
-        for (place, condition) in part.chunks(JOINED).enumerate() {
+        for condition in part.chunks(JOINED) {
             held = held && self.condition_holds(condition);
+            counters.push_named(condition);
             if ends_group(condition) {
                 if held {
-                    return Some(start);
+                    return Some(counters);
                 }
-                start = JOINED * place + JOINED;
+                counters = Counters::none();
                 held = true;
             }
         }
@@ -195,16 +182,14 @@ impl Sight<'_> {
         match part {
             [only] if *only == expression::ALWAYS => Some(Counters::none()),
             [_] => None,
-            _ => {
-                let start = self.deciding_group(part)?;
-                Some(group_counters(&part[start..]))
-            }
+            _ => self.deciding_group(part),
         }
     }
 }
 
 // The counters that an action on a stored object uses up, if it is granted: a plain write to a queue is not, whatever its change
 // expression says.
+// A match and no closures: the actions are complete, and `rt ci` refuses a function that hands out a closure.
 #[tactic(auto, using(crate::proofs::Granting::asks_read, crate::proofs::Granting::asks_change, crate::proofs::Granting::write_asks_change, crate::proofs::Granting::metadata_free, crate::proofs::Granting::queue_closed, crate::proofs::Granting::slot_grants))]
 pub fn granted(
     asked: Action,

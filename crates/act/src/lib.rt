@@ -90,6 +90,7 @@ fn show_data(command: &[u8], object: &StoredObject<'_>, room: &mut [u8])
 }
 
 // At a found record: the session stays.
+// The store is lent to be changed: a place stands beside it, and no StoredObject, which lends it shared.
 pub fn act_on_record(asked: Action, command: &[u8], store: &mut [u8], at: usize, room: &mut [u8])
     requires { Stored at store.old × InFull asked command.now × OnRecordMay asked command.now (object_at at store.old) (length room.old) }
     ensures { (store.new

@@ -84,6 +84,7 @@ fn put_sizes(object: &StoredObject<'_>, size: usize, room: &mut [u8])
 }
 
 // A tag, a length and a value, put at a place of the room; the place behind them.
+// The place is handed on: a struct of room and place would be longer.
 fn put_field(room: &mut [u8], place: usize, tag: u8, value: &[u8]) -> usize
     requires { (place + 2 + length value.now ≤ length room.old) × (length value.now < slot_size) }
     ensures { (room.new ≡ over place (tag ∷ length value.now ∷ value.now) room.old)

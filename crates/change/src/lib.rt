@@ -12,6 +12,7 @@ use record::StoredObject;
 use rules::{Offset, Slot};
 
 // Writes bytes at an offset of the object's data: its data part is lent on.
+// The store is lent to be changed: a place stands beside it, and no StoredObject, which lends it shared.
 #[tactic(auto, using(crate::proofs::Results::write_by))]
 pub fn write(store: &mut [u8], at: usize, offset: Offset, src: &[u8])
     requires { Stored at store.old × (offset.0 + length src.now ≤ (object_at at store.old).maximum) }

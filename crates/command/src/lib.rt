@@ -15,6 +15,7 @@ use rules::{
 
 // The parts of a command, each by its word of the rules with its own type and least length: one function for all would have the word as a
 // parameter.
+// Each part asks for its own length; what an action asks for is `InFull`.
 
 // The top bit of Cmd; an empty command has none.
 #[tactic(auto, unfolding(rules::specs::Command::asks_flush))]

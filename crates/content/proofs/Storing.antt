@@ -27,7 +27,7 @@ use Rattle.change.proofs.Rewritten.{Rewritten, left_start, left_then}
 use Rattle.reader.specs.declared.Field as code
 use Rattle.reader.specs.declared.Malformed.{Malformed}
 use Rattle.reader.specs.Content.{told, seen, field_at, place_after}
-use Rattle.reader.proofs.Fields.{ended, broke, gave, passed}
+use Rattle.reader.proofs.Fields.{gave, passed}
 use Rattle.content.specs.Storing.{tag_slot}
 use Rattle.content.proofs.Filling.{tags, Filling, First, first, none_left, Tag, its_tag}
 use Rattle.content.proofs.Judging.{filling}
@@ -137,6 +137,12 @@ unfolding filling
 going_start p m b s h =
     record { lcso = _; last = 0; object = object_at p b; left = left_start p b s; rest = filling (object_at p b).lcso m h; comes_to = refl }
 
+-- where a reader gave no field, none is seen
+none_seen : (r : std.Option (Result code.Field Malformed)) (f : Field) → seen r ≡ Some (Ok f) → ((c : code.Field) → r ≡ Some (Ok c) → ⊥) → ⊥
+none_seen None f q o = cc
+none_seen (Some (Ok c)) f q o = o c refl
+none_seen (Some (Err e)) f q o = cc
+
 module _ (p k : ℕ) (m b b1 : List ℕ) (g : Going p k m b b1) where
   module _ (r : std.Option (Result code.Field Malformed)) (is : seen r ≡ field_at k m) where
     going_over : ((f : Field) → field_at k m ≡ Some (Ok f) → ⊥) → b1 ≡ with_record p (with_fields (sent_fields m) (object_at p b)) b
@@ -145,12 +151,15 @@ module _ (p k : ℕ) (m b b1 : List ℕ) (g : Going p k m b b1) where
         let n = none_left k m g.rest.fs g.rest.bytes o in
         g.left.bytes ∙ ap (λ x. with_record p x b) (ap (λ fs. with_fields fs g.object) (sym n) ∙ g.comes_to)
 
-    pub going_end : r ≡ None → b1 ≡ with_record p (with_fields (sent_fields m) (object_at p b)) b
-    going_end h = going_over (λ f q. let z : None ≡ Some (Ok f) = sym (ended k m r is h) ∙ q in cc)
+    pub going_end : ((f : code.Field) → r ≡ Some (Ok f) → ⊥) → b1 ≡ with_record p (with_fields (sent_fields m) (object_at p b)) b
+    going_end o = going_over (λ f q. none_seen r f (is ∙ q) o)
+
+    pub going_done : r ≡ None → b1 ≡ with_record p (with_fields (sent_fields m) (object_at p b)) b
+    going_done h = going_end (λ f q. let z : None ≡ Some (Ok f) = sym h ∙ q in cc)
 
     pub going_malformed : (n : Result code.Field Malformed) → r ≡ Some n → (e : Malformed) → n ≡ Err e →
         b1 ≡ with_record p (with_fields (sent_fields m) (object_at p b)) b
-    going_malformed n there e err = going_over (λ f q. let z : Some (Err e) ≡ Some (Ok f) = sym (broke k m r is n there e err) ∙ q in cc)
+    going_malformed n there e err = going_end (λ f q. let z : Some (Err e) ≡ Some (Ok f) = sym (there ∙ ap Some err) ∙ q in cc)
 
     module _ (n : Result code.Field Malformed) (some : r ≡ Some n) (f : code.Field) (ok : n ≡ Ok f) where
       this : First g.lcso g.last k (told f) m g.rest.fs

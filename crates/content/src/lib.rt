@@ -55,6 +55,7 @@ fn slot_of(tag: u8) -> Slot
 }
 
 // Stores a field; that an LcsO does not fall is judged before.
+// The store is lent to be changed: a place stands beside it, and no StoredObject, which lends it shared.
 fn store_field(store: &mut [u8], at: usize, field: Field)
     requires { Stored at store.old × (field_allowed 0 (told field) ≡ true) }
     ensures { store.new ≡ stored_fields at (told field.entry ∷ []) store.old }

@@ -160,10 +160,10 @@ module _ (n : ℕ) (buffer bs : List ℕ) (size : length buffer ≡ longest) (lo
       (ap₂ (λ (j : ℕ) (p : List ℕ). over j p buffer) front_size (sym e))
 
 -- what `feeding_from` gives is what is fed where a part was taken
-abbrev FedBy : (i : ℕ) (s : Stream) (buffer bs : List ℕ) → Feeding → Type 0
+abbrev pub FedBy : (i : ℕ) (s : Stream) (buffer bs : List ℕ) → Feeding → Type 0
 FedBy i s buffer bs p = feeding_from i s buffer bs ≡ on_from i p.answer.step p.answer.taken p.buffer (drop p.answer.taken bs)
 
-part_fed : (i : ℕ) (s : Stream) (buffer bs : List ℕ) → length buffer ≡ longest → 0 < length bs → FedBy i s buffer bs (part s buffer bs)
+pub part_fed : (i : ℕ) (s : Stream) (buffer bs : List ℕ) → length buffer ≡ longest → 0 < length bs → FedBy i s buffer bs (part s buffer bs)
 unfolding part collecting_part judged_part
 part_fed i (Stays f) buffer bs size some = stopped_on i f buffer bs
 part_fed i (Collecting n) buffer [] size some = absurd (omega arith)

@@ -2,6 +2,8 @@
 use Prim.Native.Nat.{ℕ}
 use mathlib.Core.Path.{◌≡◌, refl}
 use mathlib.Core.List.{List}
+use Rattle.frames.specs.declared.BodyLength.{BodyLength}
+use Rattle.frames.specs.declared.Kind.{Kind}
 use Rattle.frames.specs.declared.Kind.TheVariants.{Command, Response}
 use Rattle.frames.specs.declared.Fault.TheVariants.{BadLength, UnknownKind, BadCheck}
 use Rattle.frames.specs.declared.Step.{Step}
@@ -13,6 +15,14 @@ use Rattle.dock.specs.declared.HostStream.{HostStream}
 use Rattle.dock.specs.Streams.{shown}
 use Rattle.dock.specs.Hosts.{named_frame, told}
 use Rattle.dock.specs.Host.{stream_of, host_of, host_told}
+
+-- of a step that is no whole frame, a host is told kind 0 and size 0
+pub none_told : (h : HostStream) (s : Step) (taken : ℕ) → ((k : Kind) (n : BodyLength) → s ≡ Whole k n → ⊥)
+    → record { stream = h; kind = 0; size = 0; taken = taken } ≡ host_told h s taken
+unfolding host_told
+none_told h (Whole k n) taken e = absurd (e k n refl)
+none_told h (NotYet n) taken e = refl
+none_told h (Stopped f) taken e = refl
 
 -- the numbers of a stream are that stream again
 pub host_back : (s : Stream) → stream_of (host_of s) ≡ s

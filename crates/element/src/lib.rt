@@ -117,6 +117,7 @@ fn set_session(session: Session, room: &mut [u8]) -> Answer
 }
 
 // A command that the steps 2 to 8 accept.
+// A match and no closures: the rows are complete, and rt ci refuses a function that hands out a closure.
 fn carry_out(command: &[u8], store: &mut [u8], session: Session, room: &mut [u8]) -> Answer
     requires { (early (is_some (unpack store.old)) command.now session ≡ accepted) × (4 ≤ length room.old) }
     ensures { executed result room.new store.new

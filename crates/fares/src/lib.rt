@@ -38,6 +38,7 @@ pub fn judge_acknowledge(object: &StoredObject<'_>, number: u32) -> Verdict
 
 // Puts a body behind the fares, under the next number: the data part is lent on.
 // Two functions: the change of the queue is their difference, and a closure would have to promise both clauses.
+// The store is lent to be changed: a place stands beside it, and no StoredObject, which lends it shared.
 pub fn append(store: &mut [u8], at: usize, body: &[u8])
     requires { Stored at store.old × MayAppend (object_at at store.old) body.now }
     ensures { store.new ≡ appended_at at body.now store.old }

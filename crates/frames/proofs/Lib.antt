@@ -1,4 +1,5 @@
 pub mod Cases
+pub mod Judging
 pub mod Judgments
 pub mod Writing
 pub mod Witnesses

@@ -161,6 +161,7 @@ fn write_unchecked(kind: Kind, body: &[u8], room: &mut [u8], n: u16)
 }
 
 // Writes the check of the bytes from..end behind them.
+// The parameter from is 0 in the program; the edit check_without_length is one that is not.
 fn write_check(room: &mut [u8], from: usize, end: usize)
     requires { (from ≤ end) × (end + 2 ≤ length room.old) }
     ensures { room.new

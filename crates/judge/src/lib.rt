@@ -29,7 +29,7 @@ pub enum Target {
 }
 
 // What the steps 9 to 13 say of a command, and the counters that it uses up where they accept it: `Judges` gives both of any command.
-#[derive(Drop)]
+#[derive(Clone, Drop)]
 pub struct Judgment {
     pub verdict: Verdict,
     pub counters: Counters,
@@ -129,6 +129,7 @@ fn judge_metadata(command: &[u8], object: &StoredObject<'_>, room: usize) -> Ver
 
 // Steps 11 to 13 at a stored object, where access is granted.
 // A match on the rules' actions: closures for them would have to be handed out.
+// `asked` and `command` stand apart, as in `ruling_on` of the rules.
 fn judge_own(asked: Action, command: &[u8], object: &StoredObject<'_>, room: usize) -> Verdict
     requires { InFull asked command.now }
     ensures { result ≡ own_verdict asked command.now object.now room }

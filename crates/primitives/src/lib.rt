@@ -93,6 +93,7 @@ pub fn clear(dst: &mut [u8])
 }
 
 // Puts n zeros at a place of dst.
+// Zeros have no slice to be copied from: where they go and how many is all.
 #[tactic(auto, unfolding(crate::specs::Bytes::over))]
 pub fn put_zeros(dst: &mut [u8], at: usize, n: usize)
     requires { at + n ≤ length dst.old }

@@ -53,6 +53,7 @@ const DATA_KIND: u16 = 0x0001;
 const LAST: usize = SLOT - 16;
 
 // Whether the bytes of a slot from e on are zero.
+// A slot is a slice of its size: an array of it would need a branch for a length that does not come.
 #[tactic(auto, using(crate::proofs::Slots::in_two))]
 fn zero_from(bytes: &[u8], e: usize) -> bool
     requires { (length bytes.now ≡ slot_size) × (e ≤ slot_size) }
@@ -245,6 +246,7 @@ impl<'a> StoredObject<'a> {
     }
 
     // Its number.
+    // Each part is one reading with its own clause: a method over the offset would ask for the part's meaning as a parameter.
     pub fn number(&self) -> ObjectNumber
         ensures { result.0 ≡ self.now.number }
     {
@@ -264,6 +266,7 @@ impl<'a> StoredObject<'a> {
     }
 
     // Whether it is a counter.
+    // One match on the kind each: a test of a given kind would say which at each caller.
     pub fn is_counter(&self) -> bool
         ensures { result ≡ is_counter self.now.kind }
     {

@@ -1,4 +1,5 @@
 // Responses, written at the front of the room: bytes after the response keep their values.
+// The room is the host's: each response asks for its own length.
 #![tactic(auto)]
 
 ghost use Rattle.std.specs.Prelude.{◌≡◌, [], ◌∷◌, ◌+◌, ◌<◌, ◌≤◌, length};

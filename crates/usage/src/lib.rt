@@ -11,6 +11,7 @@ use record::StoredObject;
 use rules::ObjectNumber;
 
 // The up counter of a number, if there is one, goes up by one.
+// That the store is sound is asked at each step: the one before changed it.
 fn step_counter(store: &mut [u8], number: ObjectNumber)
     requires { is_some (unpack store.old) ≡ true }
     ensures { store.new ≡ pack (all_used_up (number.0 ∷ []) (or_else (unpack store.old) [])) }

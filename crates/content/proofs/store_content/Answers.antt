@@ -2,7 +2,7 @@
 use mathlib.Core.Path.{refl, sym}
 use Rattle.reader.proofs.Fields.{less_left}
 use Rattle.change.proofs.Rewritten.{left_stored}
-use Rattle.content.proofs.Storing.{going_start, going_allowed, going_next, going_end, going_malformed}
+use Rattle.content.proofs.Storing.{going_start, going_allowed, going_next, going_done, going_malformed}
 use Rattle.content.proofs.store_content.Goals as goal
 
 pub loop-next-init : goal.loop-next-init
@@ -12,7 +12,7 @@ pub returns-in_default-next : goal.returns-in_default-next
 returns-in_default-next c = rw (sym c.loop-next.invariant.0) (search going_malformed)
 
 pub returns : goal.returns
-returns c = rw (sym c.loop-next.invariant.0) (search going_end)
+returns c = rw (sym c.loop-next.invariant.0) (search going_done)
 
 pub store_field-requires : goal.store_field-requires
 store_field-requires c = (search left_stored, search going_allowed)
