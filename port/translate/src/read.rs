@@ -130,7 +130,8 @@ pub fn declare(types: &Json, impls: &Json, known: &RefCell<Declared>) -> Answer<
 
 /// The name of a declared type. What is shared and written at once is not known; to let a value go is a call of MIR.
 fn declared_type(found: &Json) -> Answer<&str> {
-    let [name, _, _, types, numbers, _, owns, is_cell, _, is_tuple] = found.fields_and(DECLARED, &["view"])?;
+    let [name, _, _, types, numbers, _, owns, is_cell, _, is_tuple] =
+        found.fields_and(DECLARED, &["view"])?;
     let is_plain =
         types.number().is_ok() && numbers.list().is_ok() && *is_cell == Json::Bool(false);
     match is_plain && owns.bool().is_ok() && is_tuple.bool().is_ok() {
@@ -141,7 +142,8 @@ fn declared_type(found: &Json) -> Answer<&str> {
 
 fn is_same_type(one: &Json, other: &Json) -> Answer<bool> {
     let [_, _, _, types, numbers, _, _, _, shape, _] = one.fields_and(DECLARED, &["view"])?;
-    let [_, _, _, other_types, other_numbers, _, _, _, other_shape, _] = other.fields_and(DECLARED, &["view"])?;
+    let [_, _, _, other_types, other_numbers, _, _, _, other_shape, _] =
+        other.fields_and(DECLARED, &["view"])?;
     Ok((types, numbers, shape) == (other_types, other_numbers, other_shape))
 }
 

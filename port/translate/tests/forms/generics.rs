@@ -167,6 +167,19 @@ fn methods_of_dictionaries() {
     );
 }
 
+/// What a proof sees of a type has no bytes.
+#[test]
+fn the_view_of_a_type() {
+    let plain = library(&[&entry(&[], &[])]);
+    let seen = plain.replace(
+        r#""owns":false"#,
+        r#""owns":false,"view":{"owns":false,"holds":true,"fixes":false}"#,
+    );
+    assert_ne!(plain, seen);
+    let text = |mir: &str| translated(mir, TABLE, HEADER).expect("it is translated");
+    assert_eq!(text(&plain), text(&seen));
+}
+
 /// The unit, and a struct of it alone, have no values in C: a parameter or a field of them is left out, and a reference to one is NULL.
 #[test]
 fn what_says_nothing() {

@@ -95,7 +95,7 @@ fn an_unknown_declared_type() {
             "{new}: {why}"
         );
     }
-    let why = why(r#""owns":false"#, r#""owns":false,"view":{}"#);
+    let why = why(r#""owns":false"#, r#""owns":false,"seen":{}"#);
     assert!(
         why.starts_with("lib::entry: expected the keys name, "),
         "{why}"
