@@ -27,17 +27,6 @@ typedef struct core__cmp__slices__ElementMismatch__u8 {
     slice_u8 f1;
 } core__cmp__slices__ElementMismatch__u8;
 
-typedef struct slice_u16 {
-    const uint16_t *at;
-    usize length;
-} slice_u16;
-
-/* core::slice::reads::ElementMatch<u16> */
-typedef struct core__slice__reads__ElementMatch__u16 {
-    slice_u16 f0;
-    const uint16_t *f1;
-} core__slice__reads__ElementMatch__u16;
-
 typedef struct array_u8_4 {
     uint8_t at[4];
 } array_u8_4;
@@ -364,6 +353,11 @@ typedef struct access__Counters {
     array_u16_7 f1;
 } access__Counters;
 
+typedef struct slice_u16 {
+    const uint16_t *at;
+    usize length;
+} slice_u16;
+
 /* core::option::Option<access::Counters> */
 typedef struct core__option__Option__access__Counters {
     uint8_t tag;
@@ -387,27 +381,20 @@ typedef struct element__Answer {
 } element__Answer;
 
 static bool core__slice__scan__any_in_run__ElementMismatch__u8(const core__cmp__slices__ElementMismatch__u8 *v1, usize v2, usize v3);
-static bool core__slice__scan__any_in_run__ElementMatch__u16(const core__slice__reads__ElementMatch__u16 *v1, usize v2, usize v3);
 static bool core__slice__scan__any_in_ends__ElementMismatch__u8(const core__cmp__slices__ElementMismatch__u8 *v1, usize v2, usize v3);
-static bool core__slice__scan__any_in_ends__ElementMatch__u16(const core__slice__reads__ElementMatch__u16 *v1, usize v2, usize v3);
 static bool core__slice__scan__any_in_three__ElementMismatch__u8(const core__cmp__slices__ElementMismatch__u8 *v1, usize v2);
-static bool core__slice__scan__any_in_three__ElementMatch__u16(const core__slice__reads__ElementMatch__u16 *v1, usize v2);
 static slice_array_u8_4 core__simd__chunks__arrays__u8__4(slice_u8 v1, usize v2);
 static tuple2__slice_array_u8_4__slice_u8 core__simd__chunks__slice_T__as_chunks__u8__4(slice_u8 v1);
 static slice_u8 core__array__array_N_T__as_slice__u8__16(const uint8_t *v1);
 static bool core__cmp__slices__ElementMismatchPlaceTest__at__u8(const core__cmp__slices__ElementMismatch__u8 *v1, usize v2);
-static bool core__slice__reads__ElementMatchPlaceTest__at__u16(const core__slice__reads__ElementMatch__u16 *v1, usize v2);
 static core__ops__ControlFlow__NoValue__usize core__option__OptionTry__branch__usize(core__option__Option__usize v1);
 static core__ops__ControlFlow__ErrResidual__rules__Refusal__unit core__result__ResultTry__branch__unit__rules__Refusal(core__result__Result__unit__rules__Refusal v1);
 static core__iter__slices__Chunks__u8 core__iter__slices__slice_T__chunks__u8(slice_u8 v1, usize v2);
 static core__result__Result__u8__AllocError core__clone__U8Clone__clone(const uint8_t *v1);
-static bool core__cmp__numbers__U16PartialEq__eq(const uint16_t *v1, const uint16_t *v2);
 static bool core__cmp__numbers__U8PartialEq__eq(const uint8_t *v1, const uint8_t *v2);
 static usize core__slice__scan__first_by_one__ElementMismatch__u8(const core__cmp__slices__ElementMismatch__u8 *v1, usize v2, usize v3);
-static usize core__slice__scan__first_by_one__ElementMatch__u16(const core__slice__reads__ElementMatch__u16 *v1, usize v2, usize v3);
 static bool core__slice__scan__any_by_one__ElementMismatch__u8(const core__cmp__slices__ElementMismatch__u8 *v1, usize v2);
 static bool core__slice__scan__any_in_turn__ElementMismatch__u8(const core__cmp__slices__ElementMismatch__u8 *v1, usize v2);
-static bool core__slice__scan__any_in_turn__ElementMatch__u16(const core__slice__reads__ElementMatch__u16 *v1, usize v2);
 static rules__Refusal core__convert__AnyFrom__from__rules__Refusal(rules__Refusal v1);
 static uint16_t core__int__u16__from_be_bytes(array_u8_2 v1);
 static uint32_t core__int__u32__from_be_bytes(array_u8_4 v1);
@@ -425,7 +412,6 @@ static usize core__int__usize__max(usize v1, usize v2);
 static uint32_t core__int__u32__min(uint32_t v1, uint32_t v2);
 static usize core__int__usize__min(usize v1, usize v2);
 static bool core__slice__scan__any_in_quarters__ElementMismatch__u8(const core__cmp__slices__ElementMismatch__u8 *v1, usize v2, usize v3);
-static bool core__slice__scan__any_in_quarters__ElementMatch__u16(const core__slice__reads__ElementMatch__u16 *v1, usize v2, usize v3);
 static bool core__cmp__PartialEq__ne__slice_u8(const slice_u8 *v1, const slice_u8 *v2);
 static core__option__Option__slice_u8 core__iter__slices__ChunksIterator__next__u8(core__iter__slices__Chunks__u8 *v1);
 static core__option__Option__ref_size core__slice__index__UsizeSliceIndexRefSlice__pick__size(usize v1, slice_usize v2);
@@ -433,15 +419,10 @@ static uint32_t core__int__u32__saturating_add(uint32_t v1, uint32_t v2);
 static uint32_t core__int__u32__saturating_sub(uint32_t v1, uint32_t v2);
 static usize core__int__usize__saturating_sub(usize v1, usize v2);
 static usize core__mem__size_of_param__u8(void);
-static usize core__mem__size_of_param__u16(void);
 static usize core__slice__scan__group__u8(void);
-static usize core__slice__scan__group__u16(void);
 static usize core__slice__scan__skip_groups__ElementMismatch__u8(const core__cmp__slices__ElementMismatch__u8 *v1, usize v2, usize v3, usize v4);
-static usize core__slice__scan__skip_groups__ElementMatch__u16(const core__slice__reads__ElementMatch__u16 *v1, usize v2, usize v3, usize v4);
 static bool core__slice__scan__any_by_groups__ElementMismatch__u8(const core__cmp__slices__ElementMismatch__u8 *v1, usize v2, usize v3);
-static bool core__slice__scan__any_by_groups__ElementMatch__u16(const core__slice__reads__ElementMatch__u16 *v1, usize v2, usize v3);
 static bool core__cmp__slices__all_equal__u8(slice_u8 v1, slice_u8 v2);
-static bool core__slice__reads__slice_T__contains__u16(slice_u16 v1, const uint16_t *v2);
 static bool core__cmp__slices__groups_equal__u8(slice_u8 v1, slice_u8 v2);
 static bool core__cmp__slices__parts_equal__u8(slice_u8 v1, slice_u8 v2);
 static bool core__cmp__slices__slices_equal__u8(slice_u8 v1, slice_u8 v2);
@@ -632,6 +613,7 @@ static core__result__Result__unit__rules__Refusal judge__judge_write(slice_u8 v1
 static core__result__Result__unit__rules__Refusal judge__judge_own(rules__Action v1, slice_u8 v2, const record__StoredObject *v3, usize v4);
 static judge__Judgment judge__judge_stored(rules__Action v1, slice_u8 v2, const record__StoredObject *v3, slice_u8 v4, rules__Session v5, usize v6);
 static judge__Judgment judge__judge_target(rules__Action v1, slice_u8 v2, core__option__Option__judge__Target v3, slice_u8 v4, rules__Session v5, usize v6);
+static bool usage__is_listed(slice_u16 v1, uint16_t v2);
 static void usage__step_counter(slice_mut_u8 v1, rules__ObjectNumber v2);
 static void usage__use_up(slice_mut_u8 v1, const access__Counters *v2);
 static rules__Session element__perform(rules__Action v1, slice_u8 v2, core__option__Option__judge__Target v3, const access__Counters *v4, slice_mut_u8 v5, rules__Session v6, slice_mut_u8 v7);
@@ -679,30 +661,6 @@ static bool core__slice__scan__any_in_run__ElementMismatch__u8(const core__cmp__
     return result;
 }
 
-/* core::slice::scan::any_in_run<core::slice::reads::ElementMatch<u16>> */
-static bool core__slice__scan__any_in_run__ElementMatch__u16(const core__slice__reads__ElementMatch__u16 *v1, usize v2, usize v3)
-{
-    bool result;
-    bool v4;
-    usize v5;
-    bool v6;
-    usize v7;
-    v4 = false;
-    v5 = 0u;
-    for (;;) {
-        v6 = v5 < v3;
-        if (!v6) {
-            break;
-        }
-        v7 = v2 + v5;
-        v6 = core__slice__reads__ElementMatchPlaceTest__at__u16(v1, v7);
-        v4 = v4 || v6;
-        v5 = v5 + 1u;
-    }
-    result = v4;
-    return result;
-}
-
 /* core::slice::scan::any_in_ends<core::cmp::slices::ElementMismatch<u8>> */
 static bool core__slice__scan__any_in_ends__ElementMismatch__u8(const core__cmp__slices__ElementMismatch__u8 *v1, usize v2, usize v3)
 {
@@ -713,20 +671,6 @@ static bool core__slice__scan__any_in_ends__ElementMismatch__u8(const core__cmp_
     v4 = core__slice__scan__any_in_run__ElementMismatch__u8(v1, 0u, v3);
     v6 = v2 - v3;
     v5 = core__slice__scan__any_in_run__ElementMismatch__u8(v1, v6, v3);
-    result = v4 || v5;
-    return result;
-}
-
-/* core::slice::scan::any_in_ends<core::slice::reads::ElementMatch<u16>> */
-static bool core__slice__scan__any_in_ends__ElementMatch__u16(const core__slice__reads__ElementMatch__u16 *v1, usize v2, usize v3)
-{
-    bool result;
-    bool v4;
-    bool v5;
-    usize v6;
-    v4 = core__slice__scan__any_in_run__ElementMatch__u16(v1, 0u, v3);
-    v6 = v2 - v3;
-    v5 = core__slice__scan__any_in_run__ElementMatch__u16(v1, v6, v3);
     result = v4 || v5;
     return result;
 }
@@ -747,26 +691,6 @@ static bool core__slice__scan__any_in_three__ElementMismatch__u8(const core__cmp
     v6 = v3 || v4;
     v8 = v2 - 1u;
     v7 = core__slice__scan__any_in_run__ElementMismatch__u8(v1, v8, 1u);
-    result = v6 || v7;
-    return result;
-}
-
-/* core::slice::scan::any_in_three<core::slice::reads::ElementMatch<u16>> */
-static bool core__slice__scan__any_in_three__ElementMatch__u16(const core__slice__reads__ElementMatch__u16 *v1, usize v2)
-{
-    bool result;
-    bool v3;
-    bool v4;
-    usize v5;
-    bool v6;
-    bool v7;
-    usize v8;
-    v3 = core__slice__scan__any_in_run__ElementMatch__u16(v1, 0u, 1u);
-    v5 = v2 / 2u;
-    v4 = core__slice__scan__any_in_run__ElementMatch__u16(v1, v5, 1u);
-    v6 = v3 || v4;
-    v8 = v2 - 1u;
-    v7 = core__slice__scan__any_in_run__ElementMatch__u16(v1, v8, 1u);
     result = v6 || v7;
     return result;
 }
@@ -848,28 +772,6 @@ static bool core__cmp__slices__ElementMismatchPlaceTest__at__u8(const core__cmp_
     return result;
 }
 
-/* core::slice::reads::ElementMatchPlaceTest::at<u16> */
-static bool core__slice__reads__ElementMatchPlaceTest__at__u16(const core__slice__reads__ElementMatch__u16 *v1, usize v2)
-{
-    bool result;
-    slice_u16 v3;
-    const uint16_t *v4;
-    slice_u16 v5;
-    const uint16_t *v6;
-    usize v7;
-    const uint16_t *v8;
-    const uint16_t *v9;
-    v5 = v1->f0;
-    v6 = v1->f1;
-    v3 = v5;
-    v4 = v6;
-    v7 = v2 * 2u;
-    v8 = v3.at + v7 / 2u;
-    v9 = v8;
-    result = core__cmp__numbers__U16PartialEq__eq(v9, v4);
-    return result;
-}
-
 /* core::option::OptionTry::branch<u64> */
 static core__ops__ControlFlow__NoValue__usize core__option__OptionTry__branch__usize(core__option__Option__usize v1)
 {
@@ -934,18 +836,6 @@ static core__result__Result__u8__AllocError core__clone__U8Clone__clone(const ui
     return result;
 }
 
-/* core::cmp::numbers::U16PartialEq::eq */
-static bool core__cmp__numbers__U16PartialEq__eq(const uint16_t *v1, const uint16_t *v2)
-{
-    bool result;
-    uint16_t v3;
-    uint16_t v4;
-    v3 = *v1;
-    v4 = *v2;
-    result = v3 == v4;
-    return result;
-}
-
 /* core::cmp::numbers::U8PartialEq::eq */
 static bool core__cmp__numbers__U8PartialEq__eq(const uint8_t *v1, const uint8_t *v2)
 {
@@ -972,30 +862,6 @@ static usize core__slice__scan__first_by_one__ElementMismatch__u8(const core__cm
             break;
         }
         v6 = core__cmp__slices__ElementMismatchPlaceTest__at__u8(v1, v4);
-        if (v6) {
-            result = v4;
-            return result;
-        }
-        v4 = v4 + 1u;
-    }
-    result = v3;
-    return result;
-}
-
-/* core::slice::scan::first_by_one<core::slice::reads::ElementMatch<u16>> */
-static usize core__slice__scan__first_by_one__ElementMatch__u16(const core__slice__reads__ElementMatch__u16 *v1, usize v2, usize v3)
-{
-    usize result;
-    usize v4;
-    bool v5;
-    bool v6;
-    v4 = v2;
-    for (;;) {
-        v5 = v4 < v3;
-        if (!v5) {
-            break;
-        }
-        v6 = core__slice__reads__ElementMatchPlaceTest__at__u16(v1, v4);
         if (v6) {
             result = v4;
             return result;
@@ -1044,38 +910,6 @@ static bool core__slice__scan__any_in_turn__ElementMismatch__u8(const core__cmp_
         v3 = v3 + 4u;
     }
     v8 = core__slice__scan__first_by_one__ElementMismatch__u8(v1, v3, v2);
-    result = v8 < v2;
-    return result;
-}
-
-/* core::slice::scan::any_in_turn<core::slice::reads::ElementMatch<u16>> */
-static bool core__slice__scan__any_in_turn__ElementMatch__u16(const core__slice__reads__ElementMatch__u16 *v1, usize v2)
-{
-    bool result;
-    usize v3;
-    usize v4;
-    bool v5;
-    usize v6;
-    usize v7;
-    usize v8;
-    v3 = 0u;
-    for (;;) {
-        v4 = v2 - v3;
-        v5 = 4u <= v4;
-        if (!v5) {
-            break;
-        }
-        v6 = v3 + 4u;
-        v4 = core__slice__scan__first_by_one__ElementMatch__u16(v1, v3, v6);
-        v7 = v3 + 4u;
-        v5 = v4 < v7;
-        if (v5) {
-            result = true;
-            return result;
-        }
-        v3 = v3 + 4u;
-    }
-    v8 = core__slice__scan__first_by_one__ElementMatch__u16(v1, v3, v2);
     result = v8 < v2;
     return result;
 }
@@ -1414,34 +1248,6 @@ static bool core__slice__scan__any_in_quarters__ElementMismatch__u8(const core__
     return result;
 }
 
-/* core::slice::scan::any_in_quarters<core::slice::reads::ElementMatch<u16>> */
-static bool core__slice__scan__any_in_quarters__ElementMatch__u16(const core__slice__reads__ElementMatch__u16 *v1, usize v2, usize v3)
-{
-    bool result;
-    usize v4;
-    bool v5;
-    bool v6;
-    usize v7;
-    bool v8;
-    bool v9;
-    usize v10;
-    usize v11;
-    bool v12;
-    bool v13;
-    v4 = v2 - v3;
-    v5 = core__slice__scan__any_in_run__ElementMatch__u16(v1, 0u, v3);
-    v7 = core__int__usize__min(v3, v4);
-    v6 = core__slice__scan__any_in_run__ElementMatch__u16(v1, v7, v3);
-    v8 = v5 || v6;
-    v11 = (usize)2u * v3;
-    v10 = core__int__usize__min(v11, v4);
-    v9 = core__slice__scan__any_in_run__ElementMatch__u16(v1, v10, v3);
-    v12 = v8 || v9;
-    v13 = core__slice__scan__any_in_run__ElementMatch__u16(v1, v4, v3);
-    result = v12 || v13;
-    return result;
-}
-
 /* core::cmp::PartialEq::ne<&[u8]> */
 static bool core__cmp__PartialEq__ne__slice_u8(const slice_u8 *v1, const slice_u8 *v2)
 {
@@ -1577,14 +1383,6 @@ static usize core__mem__size_of_param__u8(void)
     return result;
 }
 
-/* core::mem::size_of_param<u16> */
-static usize core__mem__size_of_param__u16(void)
-{
-    usize result;
-    result = 2u;
-    return result;
-}
-
 /* core::slice::scan::group<u8> */
 static usize core__slice__scan__group__u8(void)
 {
@@ -1601,36 +1399,6 @@ static usize core__slice__scan__group__u8(void)
     usize v10;
     usize v11;
     v1 = core__mem__size_of_param__u8();
-    v2 = v1 == 1u;
-    v3 = (usize)v2;
-    v4 = (usize)32u * v3;
-    v5 = v1 == 2u;
-    v6 = (usize)v5;
-    v7 = (usize)16u * v6;
-    v8 = v4 + v7;
-    v9 = v1 == 4u;
-    v10 = (usize)v9;
-    v11 = (usize)8u * v10;
-    result = v8 + v11;
-    return result;
-}
-
-/* core::slice::scan::group<u16> */
-static usize core__slice__scan__group__u16(void)
-{
-    usize result;
-    usize v1;
-    bool v2;
-    usize v3;
-    usize v4;
-    bool v5;
-    usize v6;
-    usize v7;
-    usize v8;
-    bool v9;
-    usize v10;
-    usize v11;
-    v1 = core__mem__size_of_param__u16();
     v2 = v1 == 1u;
     v3 = (usize)v2;
     v4 = (usize)32u * v3;
@@ -1664,42 +1432,6 @@ static usize core__slice__scan__skip_groups__ElementMismatch__u8(const core__cmp
             v6 = v7;
             if (v6) {
                 v9 = core__slice__scan__any_in_run__ElementMismatch__u8(v1, v5, v4);
-                v6 = !v9;
-                v10 = v6;
-                if (!v10) {
-                    break;
-                }
-            } else {
-                break;
-            }
-        } else {
-            break;
-        }
-        v5 = v5 + v4;
-    }
-    result = v5;
-    return result;
-}
-
-/* core::slice::scan::skip_groups<core::slice::reads::ElementMatch<u16>> */
-static usize core__slice__scan__skip_groups__ElementMatch__u16(const core__slice__reads__ElementMatch__u16 *v1, usize v2, usize v3, usize v4)
-{
-    usize result;
-    usize v5;
-    bool v6;
-    bool v7;
-    usize v8;
-    bool v9;
-    bool v10;
-    v5 = v2;
-    for (;;) {
-        v7 = 0u < v4;
-        if (v7) {
-            v8 = v3 - v5;
-            v7 = v4 <= v8;
-            v6 = v7;
-            if (v6) {
-                v9 = core__slice__scan__any_in_run__ElementMatch__u16(v1, v5, v4);
                 v6 = !v9;
                 v10 = v6;
                 if (!v10) {
@@ -1776,65 +1508,6 @@ static bool core__slice__scan__any_by_groups__ElementMismatch__u8(const core__cm
     return result;
 }
 
-/* core::slice::scan::any_by_groups<core::slice::reads::ElementMatch<u16>> */
-static bool core__slice__scan__any_by_groups__ElementMatch__u16(const core__slice__reads__ElementMatch__u16 *v1, usize v2, usize v3)
-{
-    bool result;
-    usize v4;
-    usize v5;
-    bool v6;
-    usize v7;
-    bool v8;
-    usize v9;
-    usize v10;
-    v6 = v3 < 8u;
-    if (v6) {
-        result = core__slice__scan__any_in_turn__ElementMatch__u16(v1, v2);
-        return result;
-    }
-    v7 = v3 / 8u;
-    v6 = v2 < v7;
-    if (v6) {
-        v8 = 0u < v2;
-        if (v8) {
-            v8 = core__slice__scan__any_in_three__ElementMatch__u16(v1, v2);
-        }
-        result = v8;
-        return result;
-    }
-    v7 = v3 / 4u;
-    v6 = v2 <= v7;
-    if (v6) {
-        v9 = v3 / 8u;
-        result = core__slice__scan__any_in_ends__ElementMatch__u16(v1, v2, v9);
-        return result;
-    }
-    v6 = v2 <= v3;
-    if (v6) {
-        v10 = v3 / 4u;
-        result = core__slice__scan__any_in_quarters__ElementMatch__u16(v1, v2, v10);
-        return result;
-    }
-    v7 = (usize)2u * v3;
-    v6 = v2 <= v7;
-    if (v6) {
-        result = core__slice__scan__any_in_ends__ElementMatch__u16(v1, v2, v3);
-        return result;
-    }
-    v7 = (usize)2u * v3;
-    v4 = core__slice__scan__skip_groups__ElementMatch__u16(v1, 0u, v2, v7);
-    v5 = core__slice__scan__skip_groups__ElementMatch__u16(v1, v4, v2, v3);
-    v7 = v2 - v5;
-    v6 = v3 <= v7;
-    if (v6) {
-        result = true;
-        return result;
-    }
-    v7 = v2 - v3;
-    result = core__slice__scan__any_in_run__ElementMatch__u16(v1, v7, v3);
-    return result;
-}
-
 /* core::cmp::slices::all_equal<u8> */
 static bool core__cmp__slices__all_equal__u8(slice_u8 v1, slice_u8 v2)
 {
@@ -1859,24 +1532,6 @@ static bool core__cmp__slices__all_equal__u8(slice_u8 v1, slice_u8 v2)
     v4 = core__slice__scan__group__u8();
     v5 = core__slice__scan__any_by_groups__ElementMismatch__u8(v8, v3, v4);
     result = !v5;
-    return result;
-}
-
-/* core::slice::reads::slice+T::contains<u16> */
-static bool core__slice__reads__slice_T__contains__u16(slice_u16 v1, const uint16_t *v2)
-{
-    bool result;
-    core__slice__reads__ElementMatch__u16 v3;
-    core__slice__reads__ElementMatch__u16 v4;
-    const core__slice__reads__ElementMatch__u16 *v5;
-    usize v6;
-    usize v7;
-    v3 = (core__slice__reads__ElementMatch__u16){ .f0 = v1, .f1 = v2 };
-    v4 = v3;
-    v5 = &v4;
-    v6 = v1.length;
-    v7 = core__slice__scan__group__u16();
-    result = core__slice__scan__any_by_groups__ElementMatch__u16(v5, v6, v7);
     return result;
 }
 
@@ -7326,6 +6981,40 @@ static judge__Judgment judge__judge_target(rules__Action v1, slice_u8 v2, core__
     return result;
 }
 
+/* usage::is_listed */
+static bool usage__is_listed(slice_u16 v1, uint16_t v2)
+{
+    bool result;
+    usize v3;
+    const uint16_t *v4;
+    usize v5;
+    bool v6;
+    usize v7;
+    const uint16_t *v8;
+    uint16_t v9;
+    bool v10;
+    v3 = 0u;
+    v5 = v1.length;
+    for (;;) {
+        v6 = v3 < v5;
+        if (!v6) {
+            break;
+        }
+        v7 = v3 * 2u;
+        v8 = v1.at + v7 / 2u;
+        v4 = v8;
+        v9 = *v4;
+        v10 = v9 == v2;
+        if (v10) {
+            result = true;
+            return result;
+        }
+        v3 = v3 + 1u;
+    }
+    result = false;
+    return result;
+}
+
 /* usage::step_counter */
 static void usage__step_counter(slice_mut_u8 v1, rules__ObjectNumber v2)
 {
@@ -7379,11 +7068,12 @@ static void usage__use_up(slice_mut_u8 v1, const access__Counters *v2)
     bool v10;
     const uint16_t *v11;
     slice_u16 v12;
-    bool v13;
-    uint8_t *v15;
-    slice_mut_u8 v16;
-    uint16_t v17;
-    rules__ObjectNumber v18;
+    uint16_t v13;
+    bool v14;
+    uint8_t *v16;
+    slice_mut_u8 v17;
+    uint16_t v18;
+    rules__ObjectNumber v19;
     v3 = access__Counters__numbers(v2);
     v4 = 0u;
     v6 = v3.length;
@@ -7397,14 +7087,15 @@ static void usage__use_up(slice_mut_u8 v1, const access__Counters *v2)
         v5 = v9;
         v11 = v3.at;
         v12 = (slice_u16){ .at = v11, .length = v4 };
-        v10 = core__slice__reads__slice_T__contains__u16(v12, v5);
-        v13 = !v10;
-        if (v13) {
-            v15 = v1.at;
-            v16 = (slice_mut_u8){ .at = v15, .length = v1.length };
-            v17 = *v5;
-            v18 = (rules__ObjectNumber){ .f0 = v17 };
-            usage__step_counter(v16, v18);
+        v13 = *v5;
+        v10 = usage__is_listed(v12, v13);
+        v14 = !v10;
+        if (v14) {
+            v16 = v1.at;
+            v17 = (slice_mut_u8){ .at = v16, .length = v1.length };
+            v18 = *v5;
+            v19 = (rules__ObjectNumber){ .f0 = v18 };
+            usage__step_counter(v17, v19);
         }
         v4 = v4 + 1u;
     }

@@ -1,14 +1,15 @@
 -- The steps of listed counters: laws for the ways out of the functions.
 use Prim.Native.Nat.{ℕ, ◌+◌, ◌≤◌, ◌<◌}
-use mathlib.Core.Bool.{Bool, true, false}
+use mathlib.Core.Bool.{Bool, true, false, ◌||◌}
 use mathlib.Core.List.{List, [], ◌∷◌}
 use mathlib.Core.Option.{some}
 use mathlib.Core.Path.{◌≡◌, refl, sym, ap, ◌∙◌}
 use native.Mathlib.Omega.{arith}
 use native.Mathlib.Numerals.{add-one}
 use lib.Dec.{eqb}
-use lib.ListN.{length, get_or, take}
-use lib.Seq.{take-suc}
+use lib.ListN.{length, get_or, take, drop, drop_of_length-le}
+use lib.Seq.{take-suc, drop-cons}
+use borrow.Author.Tests.{eq-eqb, ne_eqb}
 use Rattle.rules.specs.Found.{Found}
 use Rattle.std.proofs.lemmas.Grind.{common_steps}
 use Rattle.std.proofs.lemmas.List.{take_all}
@@ -42,6 +43,23 @@ contained (m ∷ ms) n = rw (eqb_sym m n, contained ms n)
   where
     eqb_sym : (m n : ℕ) → eqb m n ≡ eqb n m
     eqb_sym m n = grind (arith, common_steps)
+
+-- `is_listed`: what is left to look through
+module _ (ns : List ℕ) (n i : ℕ) (w : Bool) (inv : w ≡ among (drop i ns) n) where
+  module _ (more : i < length ns) where
+    opened : w ≡ (eqb n (get_or ns i 0) || among (drop (i + 1) ns) n)
+    unfolding among
+    opened = inv ∙ rw (add-one i, drop-cons ns i 0 more) refl
+
+    pub listed_here : get_or ns i 0 ≡ n → true ≡ w
+    listed_here e = sym (opened ∙ rw (eq-eqb n (get_or ns i 0) (sym e)) refl)
+
+    pub listed_on : (get_or ns i 0 ≡ n → ⊥) → w ≡ among (drop (i + 1) ns) n
+    listed_on e = opened ∙ rw (ne_eqb n (get_or ns i 0) (λ h. e (sym h))) refl
+
+  pub listed_end : length ns ≤ i → false ≡ w
+  unfolding among
+  listed_end h = sym (inv ∙ rw (drop_of_length-le ns {i = i} h) refl)
 
 -- the objects of a sound store
 module _ (b : List ℕ) (sound : is_some (unpack b) ≡ true) where

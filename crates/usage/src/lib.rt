@@ -2,7 +2,7 @@
 #![tactic(auto)]
 
 ghost use Rattle.std.specs.Prelude.{◌≡◌, true, [], ◌∷◌};
-ghost use Rattle.rules.specs.Basic.{is_some, or_else};
+ghost use Rattle.rules.specs.Basic.{among, is_some, or_else};
 ghost use Rattle.rules.specs.Layout.{pack, unpack};
 ghost use Rattle.rules.specs.Access.{all_used_up};
 
@@ -24,6 +24,18 @@ fn step_counter(store: &mut [u8], number: ObjectNumber)
     }
 }
 
+// Whether a number is among these: a loop, since gcc -O3 unrolls the library's search and warns of places past the end.
+fn is_listed(numbers: &[u16], number: u16) -> bool
+    ensures { result ≡ among numbers.now number }
+{
+    for listed in numbers {
+        if *listed == number {
+            return true;
+        }
+    }
+    false
+}
+
 // Each counter goes up by one, once: one that is listed twice steps at the first place.
 pub fn use_up(store: &mut [u8], counters: &Counters)
     requires { is_some (unpack store.old) ≡ true }
@@ -31,7 +43,7 @@ pub fn use_up(store: &mut [u8], counters: &Counters)
 {
     let numbers = counters.numbers();
     for (place, number) in numbers.iter().enumerate() {
-        if !numbers[..place].contains(number) {
+        if !is_listed(&numbers[..place], *number) {
             step_counter(store, ObjectNumber(*number));
         }
     }

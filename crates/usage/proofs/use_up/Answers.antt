@@ -1,8 +1,8 @@
 -- Up to the place, the counters are used up.
 use mathlib.Core.List.{[]}
-use mathlib.Core.Path.{refl, ◌∙◌}
-use Rattle.usage.proofs.Steps.{use_start, use_sound, use_on, use_again, use_end}
-use Rattle.usage.proofs.use_up.Goals.{then-not-contains, else-not-contains}
+use mathlib.Core.Path.{refl, sym, ◌∙◌}
+use Rattle.usage.proofs.Steps.{contained, use_start, use_sound, use_on, use_again, use_end}
+use Rattle.usage.proofs.use_up.Goals.{then-not-is_listed, else-not-is_listed}
 use Rattle.usage.proofs.use_up.Goals as goal
 
 pub loop-place-init : goal.loop-place-init
@@ -12,12 +12,12 @@ pub step_counter-requires : goal.step_counter-requires
 step_counter-requires c = use_sound _ c.requires _ _ _ c.loop-place.invariant
 
 pub loop-place-preserved : goal.loop-place-preserved
-loop-place-preserved c = elim c.if-not-contains.branch [
-  | then-not-contains w ↦
+loop-place-preserved c = elim c.if-not-is_listed.branch [
+  | then-not-is_listed w ↦
       w.store-is
-      ∙ use_on _ c.requires _ _ _ c.loop-place.invariant _ refl _ c.contains.ensures.value c.loop-place-test.true w.if-not-contains.true _ w.step_counter.ensures
-  | else-not-contains w ↦
-      w.store-is ∙ use_again _ c.requires _ _ _ c.loop-place.invariant _ refl _ c.contains.ensures.value c.loop-place-test.true w.if-not-contains.false
+      ∙ use_on _ c.requires _ _ _ c.loop-place.invariant _ refl _ (c.is_listed.ensures ∙ sym (contained _ _)) c.loop-place-test.true w.if-not-is_listed.true _ w.step_counter.ensures
+  | else-not-is_listed w ↦
+      w.store-is ∙ use_again _ c.requires _ _ _ c.loop-place.invariant _ refl _ (c.is_listed.ensures ∙ sym (contained _ _)) c.loop-place-test.true w.if-not-is_listed.false
 ]
 
 pub returns : goal.returns
