@@ -1,5 +1,5 @@
 -- One slot: the tests of its check say whether the bytes are the slot of an allowed expression, and what is put is a slot.
-use Prim.Native.Nat.{ℕ, ◌+◌, ◌-◌, ◌≤◌, ◌<◌}
+use Prim.Native.Nat.{ℕ, zero, suc, ◌+◌, ◌*◌, ◌-◌, ◌≤◌, ◌<◌}
 use mathlib.Core.Path.{◌≡◌, refl, sym, ap, ◌∙◌}
 use mathlib.Core.Bool.{Bool, true, false, not, ◌&&◌, and_comm}
 use mathlib.Core.List.{List, [], ◌∷◌, ◌++◌}
@@ -127,7 +127,14 @@ fixed_by b p0 p1 p2 p3 p4 r n m h e0 e1 e2 e3 e4 e5 =
       over_over 0 10 (a3 ++ w 0) (1 ∷ 0 ∷ []) b refl (omega arith),
     )
 
--- the loop over the slots: those from the i-th place on are left
+-- the loop over the slots: where each begins
+pub slot_place : (i : ℕ) → i < 3 → 12 + i * 28 ≡ get_or (12 ∷ 40 ∷ 68 ∷ []) i 0
+slot_place zero h = refl
+slot_place (suc zero) h = refl
+slot_place (suc (suc zero)) h = refl
+slot_place (suc (suc (suc i))) h = absurd (omega (arith, h))
+
+-- those from the i-th place on are left
 module _ (w : Bool) (b ks : List ℕ) (i k : ℕ) (inv : w ≡ slots_from (drop i ks) b) (h : i < length ks) (ek : k ≡ get_or ks i 0) where
   next : w ≡ (is_slot (part b k (k + slot_size)) && slots_from (drop (i + 1) ks) b)
   next = rw ek (inv ∙ ap (λ x. slots_from x b) (drop_more ks i 0 h))

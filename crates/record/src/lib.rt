@@ -38,6 +38,8 @@ pub const READ: usize = CHANGE + SLOT;
 
 pub const EXECUTE: usize = READ + SLOT;
 
+const SLOTS: usize = 3;
+
 pub const DATA: usize = EXECUTE + SLOT;
 
 // The fewest bytes of a record: an object's maximum is from 1 to the largest.
@@ -156,13 +158,15 @@ fn kind_ok(number: u16, maximum: Length, content: &[u8]) -> bool
     }
 }
 
-// Whether the slots are slots: a loop, so that the check of a slot is compiled into it.
-#[tactic(auto, using(crate::proofs::Slots::slots_stop, crate::proofs::Slots::slots_on), unfolding(rules::specs::Basic::all, crate::specs::Records::slots_allowed))]
+// Whether the slots are slots: a loop, so that the check of a slot is compiled into it; over a range, since an array of the three places is
+// stack of the C files.
+#[tactic(auto, using(crate::proofs::Slots::slots_stop, crate::proofs::Slots::slots_on, crate::proofs::Slots::slot_place), unfolding(rules::specs::Basic::all, crate::specs::Records::slots_allowed))]
 fn slots_ok(part: &[u8]) -> bool
     requires { head_size + 1 ≤ length part.now }
     ensures { result ≡ slots_allowed part.now }
 {
-    for at in [CHANGE, READ, EXECUTE] {
+    for i in 0..SLOTS {
+        let at = CHANGE + i * SLOT;
         if !slot_ok(&part[at..at + SLOT]) {
             return false;
         }
@@ -196,6 +200,14 @@ pub fn length_at(store: &[u8], at: usize) -> usize
     ensures { result ≡ little_endian_at at store.now }
 {
     primitives::little_endian_at(store, at) as usize
+}
+
+// The number of the object whose record stands at a place.
+pub fn number_at(store: &[u8], at: usize) -> ObjectNumber
+    requires { Stored at store.now }
+    ensures { result.0 ≡ (object_at at store.now).number }
+{
+    ObjectNumber(primitives::little_endian_at(store, at + NUMBER))
 }
 
 // How far into a record a slot begins.
@@ -250,7 +262,7 @@ impl<'a> StoredObject<'a> {
     pub fn number(&self) -> ObjectNumber
         ensures { result.0 ≡ self.now.number }
     {
-        ObjectNumber(primitives::little_endian_at(self.store, self.at + NUMBER))
+        number_at(self.store, self.at)
     }
 
     // Its kind: a record has the number of one.
@@ -267,6 +279,7 @@ impl<'a> StoredObject<'a> {
 
     // Whether it is a counter.
     // One match on the kind each: a test of a given kind would say which at each caller.
+    #[tactic(auto, using(crate::proofs::ByKind::counter_is, crate::proofs::ByKind::counter_not), unfolding(rules::specs::Object::is, rules::specs::Object::is_counter))]
     pub fn is_counter(&self) -> bool
         ensures { result ≡ is_counter self.now.kind }
     {
@@ -274,6 +287,7 @@ impl<'a> StoredObject<'a> {
     }
 
     // Whether it is a counter that counts up.
+    #[tactic(auto, using(crate::proofs::ByKind::up_is, crate::proofs::ByKind::down_is, crate::proofs::ByKind::no_up), unfolding(rules::specs::Object::is))]
     pub fn is_up_counter(&self) -> bool
         ensures { result ≡ is (Counter Up) self.now.kind }
     {
@@ -284,6 +298,7 @@ impl<'a> StoredObject<'a> {
     }
 
     // Whether it is a queue.
+    #[tactic(auto, using(crate::proofs::ByKind::queue_is, crate::proofs::ByKind::queue_not), unfolding(rules::specs::Object::is))]
     pub fn is_queue(&self) -> bool
         ensures { result ≡ is Queue self.now.kind }
     {
@@ -370,7 +385,7 @@ pub fn data_end(store: &[u8], at: usize) -> usize
     requires { Stored at store.now }
     ensures { result ≡ at + head_size + (object_at at store.now).maximum }
 {
-    at + DATA + StoredObject::at(store, at).maximum().0
+    at + DATA + primitives::little_endian_at(store, at + MAXIMUM) as usize
 }
 
 // Writes how many bytes of the data are in use.

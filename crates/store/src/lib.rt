@@ -7,21 +7,12 @@ ghost use Rattle.rules.specs.Layout.{unpack, found};
 ghost use Rattle.record.specs.Places.{object_at, Stored};
 ghost use Rattle.store.specs.Way.{way, front, leads};
 
-use record::StoredObject;
 use rules::ObjectNumber;
 
 // Limits of a store: its bytes, its records.
 const BYTES: usize = 16384;
 
 const RECORDS: usize = 32;
-
-// The number of the object whose record stands at a place.
-fn number_at(store: &[u8], at: usize) -> u16
-    requires { Stored at store.now }
-    ensures { result ≡ (object_at at store.now).number }
-{
-    StoredObject::at(store, at).number().0
-}
 
 // Whether these bytes are a store: `least` is the least number that the next record may have.
 pub fn check_store(store: &[u8]) -> bool
@@ -45,7 +36,7 @@ pub fn check_store(store: &[u8]) -> bool
         if !record::record_ok(&store[at..end]) {
             return false;
         }
-        let n = number_at(store, at) as usize;
+        let n = record::number_at(store, at).0 as usize;
         if n < least {
             return false;
         }
@@ -69,7 +60,7 @@ pub fn find_record(store: &[u8], number: ObjectNumber) -> Option<usize>
     // The next place is read from the bytes.
     while at < store.len() {
         let next = record::data_end(store, at);
-        let here = number_at(store, at);
+        let here = record::number_at(store, at).0;
         if number.0 < here {
             return None;
         }
