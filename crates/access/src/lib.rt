@@ -17,22 +17,30 @@ use std::marker::Model;
 // The bytes of a condition and of the byte that joins it to the next.
 const JOINED: usize = 4;
 
-// Numbers of counters, at most one for each condition, in fixed memory: seen as their list.
-#[derive(Clone, Drop)]
+// Numbers of counters, at most one for each condition, in fixed memory: seen as their list. Behind them the memory is 0, so that the list
+// gives it back, and the type is Copy.
+#[derive(Clone, Copy)]
 pub struct Counters {
     count: usize,
     numbers: [u16; expression::CONDITIONS],
 }
 
 impl Model for Counters {
-    ghost use Rattle.std.specs.Prelude.{ℕ, List, take, ◌≤◌};
+    ghost use Rattle.std.specs.Prelude.{ℕ, List, take, drop, ◌≤◌, ◌≡◌, ◌-◌, ◌++◌, length};
+    ghost use Rattle.rules.specs.Basic.{zeros};
     ghost use Rattle.rules.specs.Expression.{slot_size, most_conditions};
+    ghost use Rattle.access.specs.Memory.{count_back, numbers_back};
 
     ghost Value = { List ℕ };
 
     ghost view = { λ c. take c.count c.numbers };
 
-    ghost invariant = { λ c. c.count ≤ most_conditions slot_size };
+    ghost invariant = { λ c. (c.count ≤ length c.numbers) × (length c.numbers ≡ most_conditions slot_size)
+        × (drop c.count c.numbers ≡ zeros (most_conditions slot_size - c.count)) };
+
+    ghost inverse = { λ ns. record { count = length ns; numbers = ns ++ zeros (most_conditions slot_size - length ns) } };
+
+    ghost inverse_ok = { λ c h i. record { count = count_back c.count c.numbers h.0 i; numbers = numbers_back c.count c.numbers h.0 h.2 i } };
 }
 
 impl Counters {
@@ -65,7 +73,8 @@ impl Counters {
     }
 
     pub fn numbers(&self) -> &[u16]
-        ensures { result.now ≡ self.now }
+        ensures list { result.now ≡ self.now }
+        ensures few { length result.now ≤ most_conditions slot_size }
     {
         &self.numbers[..self.count]
     }
@@ -142,7 +151,7 @@ impl Sight<'_> {
     }
 
     // Whether a condition holds.
-    #[tactic(auto, unfolding(rules::specs::Access::condition_holds, rules::specs::Access::state_holds, rules::specs::Access::present, rules::specs::Access::seen))]
+    #[tactic(auto, unfolding(rules::specs::Access::condition_holds, rules::specs::Access::state_holds, rules::specs::Access::present, rules::specs::Access::seen, rules::specs::Expression::names_counter, rules::specs::Expression::counter_number, expression::specs::Conditions::condition_at))]
     fn condition_holds(&self, condition: &[u8]) -> bool
         requires { 3 ≤ length condition.now }
         ensures { result ≡ condition_holds (seen_in self.now.store.now self.now.session) self.now.lcso (condition_at 0 condition.now) }

@@ -29,7 +29,7 @@ pub enum Target {
 }
 
 // What the steps 9 to 13 say of a command, and the counters that it uses up where they accept it: `Judges` gives both of any command.
-#[derive(Clone, Drop)]
+#[derive(Clone, Copy)]
 pub struct Judgment {
     pub verdict: Verdict,
     pub counters: Counters,

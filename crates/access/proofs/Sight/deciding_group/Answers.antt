@@ -1,11 +1,13 @@
 -- What is left to judge is what the rest grants: the present group names the counters pushed, then those of the rest of it.
 use borrow.Author.Rules.{rules}
-use mathlib.Core.Bool.{true, ◌&&◌}
+use mathlib.Core.Bool.{◌&&◌}
+use mathlib.Core.List.{◌++◌}
 use mathlib.Core.Path.{◌≡◌, refl, sym, ap, ◌∙◌}
 use native.Mathlib.Omega.{arith}
 use Rattle.std.specs.Slice.Iter.{chunks_rest, chunks_size}
-use Rattle.rules.specs.Access.{seen_in, condition_holds, grant_if}
+use Rattle.rules.specs.Access.{seen_in, condition_holds}
 use Rattle.expression.specs.Conditions.{condition_at}
+use Rattle.access.specs.Groups.{first_group}
 use Rattle.access.proofs.Chunks.{rest_whole}
 use Rattle.access.proofs.Granting.{conditions_fill, grant_joined, group_decides, next_group, same_group, group_ends, group_on, room_left, room_next, nothing_left}
 use Rattle.access.proofs.Sight.deciding_group.Goals.{After-ends_group, then-held, else-held}
@@ -40,8 +42,10 @@ returns-then-held-2 c =
     let whole = i.3 t.2 in
     let ends = sym c.ends_group.ensures ∙ c.if-ends_group.true in
     let h = held (goal.at.returns-then-held-2 c).After-ends_group in
-    sym (group_decides _ _ _ t.0 size whole _ _ _ _ _ i.5 _ h ends c.if-held-2.true
-    ∙ ap (grant_if true) (sym (group_ends _ _ _ t.0 size whole _ _ _ refl c.push_named.ensures ends)))
+    let all : c.push_named.new.self ≡ c.loop-condition.counters ++ first_group (chunks_rest c.loop-condition.condition-iterator) =
+    group_ends _ _ _ t.0 size whole _ _ _ refl c.push_named.ensures ends in
+    let decided = group_decides _ _ _ t.0 size whole _ _ _ _ _ i.5 _ h ends c.if-held-2.true in
+    cc
 
 pub loop-condition-preserved-then-ends_group : goal.loop-condition-preserved-then-ends_group
 loop-condition-preserved-then-ends_group c =
