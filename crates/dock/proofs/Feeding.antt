@@ -1,14 +1,12 @@
 -- The loop of `feed`: what is taken and what is left of a piece.
 use Prim.Native.Nat.{ℕ, zero, suc, ◌+◌, ◌-◌, ◌≤◌, ◌<◌, min}
 use mathlib.Core.Path.{◌≡◌, refl, ap, ap₂, sym, subst, ◌∙◌}
-use mathlib.Core.Bool.{Bool, true, false}
 use mathlib.Core.List.{List, [], ◌∷◌, ◌++◌, append_assoc}
 use native.Mathlib.Omega.{arith}
 use borrow.Author.Tests.{lt-ltb, le-ltb}
 use borrow.Author.Rules.{part_to_end}
 use denote.Enum.Declared.{tag_of}
 use types.Run.{OneOf}
-use lib.Dec.{ltb}
 use lib.ListN.{length, take, drop, set, length-set, length-append, length-drop, take-append-drop, drop_of_length-le}
 use lib.Seq.{set_split, length-take-le, drop-drop}
 use Rattle.primitives.specs.Bytes.{over}
@@ -24,9 +22,9 @@ use Rattle.frames.specs.Frames.{longest, in_frame, judged}
 use Rattle.frames.specs.contracts.Step.{the_type}
 use Rattle.dock.specs.declared.Stream.{Stream}
 use Rattle.dock.specs.declared.Stream.TheVariants.{Collecting, Stopped as Stays}
-use Rattle.dock.specs.declared.Fed.{Fed}
+use Rattle.dock.specs.declared.Part.{Part}
 use Rattle.dock.specs.Held.{Feeding, step_of, stream_after, buffer_after, resting, fed, whole_or, feeding_from}
-use Rattle.dock.specs.Parts.{reach, judged_part, collecting_part, part}
+use Rattle.dock.specs.Parts.{Parting, reach, parted, judged_part, collecting_part, part}
 use Rattle.dock.proofs.Stepping.{front_more}
 use Rattle.frames.proofs.Judgments.{by_ltb}
 use Rattle.dock.proofs.Ahead.{Next, reached}
@@ -160,7 +158,7 @@ module _ (n : ℕ) (buffer bs : List ℕ) (size : length buffer ≡ longest) (lo
       (ap₂ (λ (j : ℕ) (p : List ℕ). over j p buffer) front_size (sym e))
 
 -- what `feeding_from` gives is what is fed where a part was taken
-abbrev pub FedBy : (i : ℕ) (s : Stream) (buffer bs : List ℕ) → Feeding → Type 0
+abbrev pub FedBy : (i : ℕ) (s : Stream) (buffer bs : List ℕ) → Parting → Type 0
 FedBy i s buffer bs p = feeding_from i s buffer bs ≡ on_from i p.answer.step p.answer.taken p.buffer (drop p.answer.taken bs)
 
 pub part_fed : (i : ℕ) (s : Stream) (buffer bs : List ℕ) → length buffer ≡ longest → 0 < length bs → FedBy i s buffer bs (part s buffer bs)
@@ -171,19 +169,18 @@ part_fed i (Collecting n) buffer (b ∷ bs) size some =
     by_ltb (FedBy i (Collecting n) buffer (b ∷ bs)) n.0 longest
     (λ low. collected_from n.0 buffer (b ∷ bs) size low i some) (past_room i n buffer b bs)
 
--- it takes some bytes and no more than there are, and the stream after it is the step's
-record IsPart (bs : List ℕ) (p : Feeding) : Type 0 where
+-- it takes some bytes and no more than there are
+record IsPart (bs : List ℕ) (p : Parting) : Type 0 where
   pub some : 0 < p.answer.taken
   pub most : p.answer.taken ≤ length bs
-  pub later : p.answer.stream ≡ stream_after p.answer.step
 
 is_part : (s : Stream) (buffer bs : List ℕ) → length buffer ≡ longest → 0 < length bs → IsPart bs (part s buffer bs)
 unfolding part collecting_part judged_part
-is_part (Stays f) buffer bs size some = record { some = some; most = omega arith; later = refl }
+is_part (Stays f) buffer bs size some = record { some = some; most = omega arith }
 is_part (Collecting n) buffer bs size some =
     by_ltb (IsPart bs) n.0 longest
-    (λ low. record { some = k_some n.0 buffer bs size low some; most = omega arith; later = refl })
-    (λ high. record { some = some; most = omega arith; later = refl })
+    (λ low. record { some = k_some n.0 buffer bs size low some; most = omega arith })
+    (λ high. record { some = some; most = omega arith })
 
 -- the loop ---------------------------------------------------------------------------------------------------------------------
 
@@ -199,30 +196,20 @@ ends (Whole k n) a b e = refl
 ends (NotYet n) a b e = absurd (omega arith)
 ends (Stopped f) a b e = absurd (omega arith)
 
--- the stream after a part is that after its step
-part_stream : (s : Stream) (buffer bs : List ℕ) → (part s buffer bs).answer.stream ≡ stream_after (part s buffer bs).answer.step
-unfolding part
-part_stream (Stays f) buffer bs = refl
-part_stream (Collecting n) buffer bs = go (ltb n.0 longest) refl
-  where
-    go : (t : Bool) → ltb n.0 longest ≡ t → (collecting_part n.0 buffer bs).answer.stream ≡ stream_after (collecting_part n.0 buffer bs).answer.step
-    go true e = unfold collecting_part judged_part in rw e refl
-    go false e = unfold collecting_part in rw e refl
-
 -- a part of what is left of a piece, with i bytes taken before it
-module _ (i : ℕ) (s : Stream) (buffer piece : List ℕ) (r : Fed) (kept : List ℕ) (e : fed r kept ≡ part s buffer (take (length piece - i) (drop i piece)))
+module _ (i : ℕ) (s : Stream) (buffer piece : List ℕ) (r : Part) (kept : List ℕ) (e : parted r kept ≡ part s buffer (take (length piece - i) (drop i piece)))
     (h : i < length piece) (size : length buffer ≡ longest) where
   rest_is : take (length piece - i) (drop i piece) ≡ drop i piece
   rest_is = part_to_end piece i
 
-  whole_is : fed r kept ≡ part s buffer (drop i piece)
+  whole_is : parted r kept ≡ part s buffer (drop i piece)
   whole_is = e ∙ ap (part s buffer) rest_is
 
   rest_some : 0 < length (drop i piece)
   rest_some = simp length-drop (omega arith)
 
   taken_is : r.taken ≡ (part s buffer (drop i piece)).answer.taken
-  taken_is = ap (λ (p : Feeding). p.answer.taken) whole_is
+  taken_is = ap (λ (p : Parting). p.answer.taken) whole_is
 
   taken_some : 0 < r.taken
   taken_some = omega (arith, taken_is, (is_part s buffer (drop i piece) size rest_some).some)
@@ -233,13 +220,10 @@ module _ (i : ℕ) (s : Stream) (buffer piece : List ℕ) (r : Fed) (kept : List
   pub left_less : length piece - (i + r.taken) < length piece - i
   left_less = omega (arith, taken_some, taken_within)
 
-  module _ (w : Feeding) (inv : feeding_from i s buffer (drop i piece) ≡ w) where
-    later : r.stream ≡ stream_after r.step
-    later = rw (← whole_is) at (is_part s buffer (drop i piece) size rest_some).later
-
-    turn : whole_or r.step (fed (record { stream = r.stream; step = r.step; taken = i + r.taken }) kept) (feeding_from (i + r.taken) r.stream kept (drop (i + r.taken) piece)) ≡ w
+  module _ (w : Feeding) (inv : feeding_from i s buffer (drop i piece) ≡ w) (later : Stream) (l : later ≡ stream_after r.step) where
+    turn : whole_or r.step (fed (record { stream = later; step = r.step; taken = i + r.taken }) kept) (feeding_from (i + r.taken) later kept (drop (i + r.taken) piece)) ≡ w
     turn =
-        rw later (on_is ∙ sym (ap (λ (p : Feeding). on_from i p.answer.step p.answer.taken p.buffer (drop p.answer.taken (drop i piece))) (sym whole_is))
+        rw l (on_is ∙ sym (ap (λ (p : Parting). on_from i p.answer.step p.answer.taken p.buffer (drop p.answer.taken (drop i piece))) (sym whole_is))
         ∙ sym (part_fed i s buffer (drop i piece) size rest_some) ∙ inv)
       where
         on_is : whole_or r.step (fed (record { stream = stream_after r.step; step = r.step; taken = i + r.taken }) kept)
@@ -247,10 +231,10 @@ module _ (i : ℕ) (s : Stream) (buffer piece : List ℕ) (r : Fed) (kept : List
             ≡ on_from i r.step r.taken kept (drop r.taken (drop i piece))
         on_is = unfold on_from in rw drop-drop
 
-    pub feed_on : ((k : Kind) (n : BodyLength) → r.step ≡ Whole k n → ⊥) → feeding_from (i + r.taken) r.stream kept (drop (i + r.taken) piece) ≡ w
+    pub feed_on : ((k : Kind) (n : BodyLength) → r.step ≡ Whole k n → ⊥) → feeding_from (i + r.taken) later kept (drop (i + r.taken) piece) ≡ w
     feed_on k = sym (goes_on r.step _ _ k) ∙ turn
 
-    pub feed_whole : OneOf (0 ∷ []) (tag_of the_type r.step) → fed (record { stream = r.stream; step = r.step; taken = i + r.taken }) kept ≡ w
+    pub feed_whole : OneOf (0 ∷ []) (tag_of the_type r.step) → fed (record { stream = later; step = r.step; taken = i + r.taken }) kept ≡ w
     feed_whole k = sym (ends r.step _ _ k) ∙ turn
 
 pub feed_end : (w : Feeding) (i : ℕ) (s : Stream) (buffer piece : List ℕ) (r : Step) → feeding_from i s buffer (drop i piece) ≡ w → length piece ≤ i → r ≡ resting s

@@ -8,8 +8,7 @@ use Rattle.frames.specs.declared.Step.TheVariants.{Whole, NotYet, Stopped}
 use Rattle.frames.specs.Frames.{around, longest, judged_by_head, judged}
 use Rattle.dock.specs.declared.Stream.{Stream}
 use Rattle.dock.specs.declared.Stream.TheVariants.{Collecting, Stopped as Stays}
-use Rattle.dock.specs.declared.Fed.{Fed}
-use Rattle.dock.specs.Held.{Feeding, fed, stream_after}
+use Rattle.dock.specs.declared.Part.{Part}
 
 -- a frame that goes on is judged next where its length ends, where its kind ends, at its last byte; other bytes, with the next
 unfoldable pub judged_after : Step → List ℕ → ℕ
@@ -28,21 +27,24 @@ head_judged bytes = if ltb (length bytes) 4 then 0 else next_judged (take 4 byte
 unfoldable pub reach : ℕ → List ℕ → List ℕ → ℕ
 reach n buffer bytes = if eqb n 0 && leb around (head_judged bytes) then head_judged bytes else next_judged (take n buffer)
 
--- what is answered to the last of so many bytes taken at once: the stream after it is the step's
-abbrev pub answered : Step → ℕ → Fed
-answered s taken = record { stream = stream_after s; step = s; taken = taken }
+-- what `take_part` answers, and the lent bytes as it leaves them
+pub record Parting : Type 0 where
+  pub answer : Part
+  pub buffer : List ℕ
+
+abbrev pub parted : Part → List ℕ → Parting
+parted r buffer = record { answer = r; buffer = buffer }
 
 -- with so many of these bytes put behind the n collected
-unfoldable pub judged_part : ℕ → List ℕ → List ℕ → ℕ → Feeding
-judged_part n buffer bytes k = fed (answered (judged (take n buffer ++ take k bytes)) k) (over n (take k bytes) buffer)
+unfoldable pub judged_part : ℕ → List ℕ → List ℕ → ℕ → Parting
+judged_part n buffer bytes k = parted (record { step = judged (take n buffer ++ take k bytes); taken = k }) (over n (take k bytes) buffer)
 
 -- no frame has room for more than the longest
-unfoldable pub collecting_part : ℕ → List ℕ → List ℕ → Feeding
+unfoldable pub collecting_part : ℕ → List ℕ → List ℕ → Parting
 collecting_part n buffer bytes =
     if ltb n longest then judged_part n buffer bytes (min (reach n buffer bytes - n) (length bytes)) else
-    fed (answered (Stopped BadLength) (length bytes)) buffer
+    parted (record { step = Stopped BadLength; taken = length bytes }) buffer
 
--- what `take_part` answers, and the lent bytes as it leaves them
-unfoldable pub part : Stream → List ℕ → List ℕ → Feeding
+unfoldable pub part : Stream → List ℕ → List ℕ → Parting
 part (Collecting n) buffer bytes = collecting_part n.0 buffer bytes
-part (Stays f) buffer bytes = fed (answered (Stopped f) (length bytes)) buffer
+part (Stays f) buffer bytes = parted (record { step = Stopped f; taken = length bytes }) buffer

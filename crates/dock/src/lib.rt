@@ -6,7 +6,7 @@ ghost use Rattle.primitives.specs.Bytes.{over};
 ghost use Rattle.frames.specs.Frames.{in_frame, judged};
 ghost use Rattle.dock.specs.Held.{stream_after, resting, fed, feeding};
 ghost use Rattle.dock.specs.Host.{stream_of, host_of, host_fed, host_left, host_feeding};
-ghost use Rattle.dock.specs.Parts.{next_judged, head_judged, reach, answered, collecting_part, part};
+ghost use Rattle.dock.specs.Parts.{next_judged, head_judged, reach, parted, collecting_part, part};
 
 use frames::{AROUND, Fault, FrameLength, HEAD, LONGEST, Step};
 
@@ -42,6 +42,13 @@ pub struct HostFed {
     pub kind: u16,
     pub size: u16,
     pub taken: usize,
+}
+
+// The answer to the last of the bytes that are taken at once, and how many these are.
+#[derive(Clone, Copy)]
+struct Part {
+    step: Step,
+    taken: usize,
 }
 
 // How many bytes are collected when they are judged next: no byte before that can end the frame or stop the stream.
@@ -98,28 +105,22 @@ fn put_behind(n: usize, frame: &mut [u8], bytes: &[u8]) -> Step
     frames::judge(&frame[..end])
 }
 
-// The answer to the last byte taken, with the stream after it.
-fn answered(step: Step, taken: usize) -> Fed
-    ensures { result ≡ answered step taken }
-{
-    Fed {
-        stream: Stream::after(step),
-        step,
-        taken,
-    }
-}
-
 // Takes bytes behind the n collected before them, up to where they are judged.
 #[tactic(auto, using(crate::proofs::Parting::judged_ahead, crate::proofs::Parting::put_fits), unfolding(crate::specs::Parts::collecting_part, crate::specs::Parts::judged_part))]
-fn collect(n: usize, frame: &mut [u8; LONGEST], bytes: &[u8]) -> Fed
-    ensures { fed result frame.new ≡ collecting_part n frame.old bytes.now }
+fn collect(n: usize, frame: &mut [u8; LONGEST], bytes: &[u8]) -> Part
+    ensures { parted result frame.new ≡ collecting_part n frame.old bytes.now }
 {
     if LONGEST <= n {
-        return answered(Step::Stopped(Fault::BadLength), bytes.len());
+        return Part {
+            step: Step::Stopped(Fault::BadLength),
+            taken: bytes.len(),
+        };
     }
     let taken = (reach(n, frame, bytes) - n).min(bytes.len());
-    let step = put_behind(n, frame, &bytes[..taken]);
-    answered(step, taken)
+    Part {
+        step: put_behind(n, frame, &bytes[..taken]),
+        taken,
+    }
 }
 
 impl Stream {
@@ -152,12 +153,15 @@ impl Stream {
 
     // Takes bytes at once. A stopped stream takes all, and answers its fault.
     #[tactic(auto, unfolding(crate::specs::Parts::part))]
-    fn take_part(self, frame: &mut [u8; LONGEST], bytes: &[u8]) -> Fed
-        ensures { fed result frame.new ≡ part self frame.old bytes.now }
+    fn take_part(self, frame: &mut [u8; LONGEST], bytes: &[u8]) -> Part
+        ensures { parted result frame.new ≡ part self frame.old bytes.now }
     {
         match self {
             Stream::Collecting(n) => collect(n.0 as usize, frame, bytes),
-            Stream::Stopped(fault) => answered(Step::Stopped(fault), bytes.len()),
+            Stream::Stopped(fault) => Part {
+                step: Step::Stopped(fault),
+                taken: bytes.len(),
+            },
         }
     }
 
@@ -171,12 +175,16 @@ impl Stream {
         // A part is as long as its bytes say.
         while taken < piece.len() {
             let part = stream.take_part(frame, &piece[taken..]);
-            stream = part.stream;
+            stream = Stream::after(part.step);
             taken += part.taken;
             let Step::Whole(_, _) = part.step else {
                 continue;
             };
-            return Fed { taken, ..part };
+            return Fed {
+                stream,
+                step: part.step,
+                taken,
+            };
         }
         Fed {
             stream,
@@ -192,12 +200,16 @@ impl From<HostStream> for Stream {
 
     #[tactic(auto, unfolding(crate::specs::Host::stream_of))]
     fn from(held: HostStream) -> Stream {
-        match held.stop {
-            0 => Stream::Collecting(FrameLength(held.collected)),
-            2 => Stream::Stopped(Fault::UnknownKind),
-            3 => Stream::Stopped(Fault::BadCheck),
-            _ => Stream::Stopped(Fault::BadLength),
+        if held.stop == 0 {
+            return Stream::Collecting(FrameLength(held.collected));
         }
+        if held.stop == 2 {
+            return Stream::Stopped(Fault::UnknownKind);
+        }
+        if held.stop == 3 {
+            return Stream::Stopped(Fault::BadCheck);
+        }
+        Stream::Stopped(Fault::BadLength)
     }
 }
 
@@ -245,7 +257,7 @@ impl From<Fed> for HostFed {
 pub fn start_for_host() -> HostStream
     ensures { result ≡ host_of (Stream.Collecting (in_frame 0)) }
 {
-    Stream::start().into()
+    HostStream::from(Stream::start())
 }
 
 // `feed` for a host in C.
@@ -253,5 +265,5 @@ pub fn start_for_host() -> HostStream
 pub fn feed_for_host(held: HostStream, frame: &mut [u8; LONGEST], piece: &[u8]) -> HostFed
     ensures { host_left result frame.new ≡ host_feeding held frame.old piece.now }
 {
-    Stream::from(held).feed(frame, piece).into()
+    HostFed::from(Stream::from(held).feed(frame, piece))
 }

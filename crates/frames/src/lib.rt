@@ -138,13 +138,15 @@ fn check_right(bytes: &[u8]) -> bool
     remainder::remainder(&bytes[..end]) == primitives::little_endian_at(bytes, end)
 }
 
-// Judges the bytes of a frame so far: by the check too where all are there.
+// Judges the bytes of a frame so far: by the check too where all are there. `Whole` is made anew: the answer handed on is copied through
+// memory by gcc, and `dock_feed` took half as long again.
 #[tactic(auto, using(crate::proofs::Judgments::whole_long), unfolding(crate::specs::Frames::judged, crate::specs::Frames::checked))]
 pub fn judge(bytes: &[u8]) -> Step
     ensures { result ≡ judged bytes.now }
 {
     match judge_head(bytes) {
-        Step::Whole(_, _) if !check_right(bytes) => Step::Stopped(Fault::BadCheck),
+        Step::Whole(kind, size) if check_right(bytes) => Step::Whole(kind, size),
+        Step::Whole(_, _) => Step::Stopped(Fault::BadCheck),
         answer => answer,
     }
 }
