@@ -44,6 +44,10 @@ contained (m ∷ ms) n = rw (eqb_sym m n, contained ms n)
     eqb_sym : (m n : ℕ) → eqb m n ≡ eqb n m
     eqb_sym m n = grind (arith, common_steps)
 
+-- the numbers before the place i, by another name of it
+pub looked : (ns : List ℕ) (n i j : ℕ) (t : Bool) → t ≡ among (take j ns) n → j ≡ i → t ≡ among (take i ns) n
+looked ns n i j t h e = h ∙ ap (λ k. among (take k ns) n) e
+
 -- `is_listed`: what is left to look through
 module _ (ns : List ℕ) (n i : ℕ) (w : Bool) (inv : w ≡ among (drop i ns) n) where
   module _ (more : i < length ns) where
