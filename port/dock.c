@@ -50,35 +50,6 @@ typedef struct frames__Kind {
     uint8_t tag;
 } frames__Kind;
 
-/* frames::BodyLength */
-typedef struct frames__BodyLength {
-    uint16_t f0;
-} frames__BodyLength;
-
-/* frames::Step */
-typedef struct frames__Step {
-    uint8_t tag;
-    union {
-        struct {
-            frames__Kind f1;
-            frames__BodyLength f2;
-        } v0;
-        struct {
-            frames__FrameLength f1;
-        } v1;
-        struct {
-            frames__Fault f1;
-        } v2;
-    } as;
-} frames__Step;
-
-/* dock::Fed */
-typedef struct dock__Fed {
-    dock__Stream f0;
-    frames__Step f1;
-    usize f2;
-} dock__Fed;
-
 /* frames::WriteRefusal */
 typedef struct frames__WriteRefusal {
     uint8_t tag;
@@ -104,6 +75,28 @@ typedef struct core__option__Option__frames__Kind {
     } as;
 } core__option__Option__frames__Kind;
 
+/* frames::BodyLength */
+typedef struct frames__BodyLength {
+    uint16_t f0;
+} frames__BodyLength;
+
+/* frames::Step */
+typedef struct frames__Step {
+    uint8_t tag;
+    union {
+        struct {
+            frames__Kind f1;
+            frames__BodyLength f2;
+        } v0;
+        struct {
+            frames__FrameLength f1;
+        } v1;
+        struct {
+            frames__Fault f1;
+        } v2;
+    } as;
+} frames__Step;
+
 /* core::result::Result<frames::FrameLength, frames::WriteRefusal> */
 typedef struct core__result__Result__frames__FrameLength__frames__WriteRefusal {
     uint8_t tag;
@@ -117,8 +110,20 @@ typedef struct core__result__Result__frames__FrameLength__frames__WriteRefusal {
     } as;
 } core__result__Result__frames__FrameLength__frames__WriteRefusal;
 
+/* dock::Fed */
+typedef struct dock__Fed {
+    dock__Stream f0;
+    frames__Step f1;
+    usize f2;
+} dock__Fed;
+
+/* dock::Part */
+typedef struct dock__Part {
+    frames__Step f0;
+    usize f1;
+} dock__Part;
+
 static uint16_t core__int__u16__from_le_bytes(array_u8_2 v1);
-static dock_fed core__convert__AnyInto__into__dock__Fed__dock__HostFed(dock__Fed v1);
 static dock_stream core__convert__AnyInto__into__dock__Stream__dock__HostStream(dock__Stream v1);
 static uint16_t core__convert__AnyInto__into__frames__Fault__u16(frames__Fault v1);
 static uint16_t core__convert__AnyInto__into__frames__Kind__u16(frames__Kind v1);
@@ -149,13 +154,12 @@ static usize dock__next_judged(slice_u8 v1);
 static usize dock__head_judged(slice_u8 v1);
 static frames__Step dock__put_behind(usize v1, slice_mut_u8 v2, slice_u8 v3);
 static usize dock__reach(usize v1, slice_u8 v2, slice_u8 v3);
+static dock__Part dock__collect(usize v1, uint8_t *v2, slice_u8 v3);
 static frames__Step dock__Stream__resting(dock__Stream v1);
 static dock__Stream dock__Stream__start(void);
 static dock__Stream dock__Stream__after(frames__Step v1);
-static dock__Fed dock__answered(frames__Step v1, usize v2);
-static dock__Fed dock__collect(usize v1, uint8_t *v2, slice_u8 v3);
 static dock_stream dock__start_for_host(void);
-static dock__Fed dock__Stream__take_part(dock__Stream v1, uint8_t *v2, slice_u8 v3);
+static dock__Part dock__Stream__take_part(dock__Stream v1, uint8_t *v2, slice_u8 v3);
 static dock__Fed dock__Stream__feed(dock__Stream v1, uint8_t *v2, slice_u8 v3);
 static dock_fed dock__feed_for_host(dock_stream v1, uint8_t *v2, slice_u8 v3);
 static dock_fed firmware__dock_feed(dock_stream v1, uint8_t *v2, slice_u8 v3);
@@ -188,16 +192,6 @@ static uint16_t core__int__u16__from_le_bytes(array_u8_2 v1)
     v10 = (uint16_t)v9;
     v11 = (uint16_t)((uint32_t)v10 * (uint32_t)256u);
     result = (uint16_t)((uint32_t)v6 + (uint32_t)v11);
-    return result;
-}
-
-/* core::convert::AnyInto::into<dock::Fed, dock::HostFed> */
-static dock_fed core__convert__AnyInto__into__dock__Fed__dock__HostFed(dock__Fed v1)
-{
-    dock_fed result;
-    dock__Fed v2;
-    v2 = v1;
-    result = dock__HostFedFromFed__from(v2);
     return result;
 }
 
@@ -610,33 +604,35 @@ static frames__Step frames__judge_head(slice_u8 v1)
 static frames__Step frames__judge(slice_u8 v1)
 {
     frames__Step result;
-    frames__Step v2;
-    frames__Step v3;
+    frames__Kind v2;
+    frames__BodyLength v3;
     frames__Step v4;
-    bool v5;
-    bool v6;
-    frames__Fault v7;
-    v3 = frames__judge_head(v1);
-    switch (v3.tag) {
+    frames__Step v5;
+    frames__Step v6;
+    bool v7;
+    frames__Fault v8;
+    v5 = frames__judge_head(v1);
+    switch (v5.tag) {
     case 0u:
-        v5 = frames__check_right(v1);
-        v6 = !v5;
-        if (v6) {
-            v7 = (frames__Fault){ .tag = 2u };
-            v4 = (frames__Step){ .tag = 2u, .as.v2.f1 = v7 };
+        v2 = v5.as.v0.f1;
+        v3 = v5.as.v0.f2;
+        v7 = frames__check_right(v1);
+        if (v7) {
+            v6 = (frames__Step){ .tag = 0u, .as.v0.f1 = v2, .as.v0.f2 = v3 };
             goto end1;
         }
-        goto end2;
+        v8 = (frames__Fault){ .tag = 2u };
+        v6 = (frames__Step){ .tag = 2u, .as.v2.f1 = v8 };
+        end1:;
+        break;
     case 1u:
     case 2u:
     default:
-        goto end2;
+        v4 = v5;
+        v6 = v4;
+        break;
     }
-    end2:;
-    v2 = v3;
-    v4 = v2;
-    end1:;
-    result = v4;
+    result = v6;
     return result;
 }
 
@@ -816,30 +812,31 @@ static dock_stream dock__HostStreamFromStream__from(dock__Stream v1)
 static dock__Stream dock__StreamFromHostStream__from(dock_stream v1)
 {
     dock__Stream result;
-    dock__Stream v2;
+    bool v2;
     frames__FrameLength v3;
     frames__Fault v4;
     frames__Fault v5;
     frames__Fault v6;
-    switch (v1.stop) {
-    case 0u:
+    v2 = v1.stop == 0u;
+    if (v2) {
         v3 = (frames__FrameLength){ .f0 = v1.collected };
-        v2 = (dock__Stream){ .tag = 0u, .as.v0.f1 = v3 };
-        break;
-    case 2u:
-        v4 = (frames__Fault){ .tag = 1u };
-        v2 = (dock__Stream){ .tag = 1u, .as.v1.f1 = v4 };
-        break;
-    case 3u:
-        v5 = (frames__Fault){ .tag = 2u };
-        v2 = (dock__Stream){ .tag = 1u, .as.v1.f1 = v5 };
-        break;
-    default:
-        v6 = (frames__Fault){ .tag = 0u };
-        v2 = (dock__Stream){ .tag = 1u, .as.v1.f1 = v6 };
-        break;
+        result = (dock__Stream){ .tag = 0u, .as.v0.f1 = v3 };
+        return result;
     }
-    result = v2;
+    v2 = v1.stop == 2u;
+    if (v2) {
+        v4 = (frames__Fault){ .tag = 1u };
+        result = (dock__Stream){ .tag = 1u, .as.v1.f1 = v4 };
+        return result;
+    }
+    v2 = v1.stop == 3u;
+    if (v2) {
+        v5 = (frames__Fault){ .tag = 2u };
+        result = (dock__Stream){ .tag = 1u, .as.v1.f1 = v5 };
+        return result;
+    }
+    v6 = (frames__Fault){ .tag = 0u };
+    result = (dock__Stream){ .tag = 1u, .as.v1.f1 = v6 };
     return result;
 }
 
@@ -948,6 +945,48 @@ static usize dock__reach(usize v1, slice_u8 v2, slice_u8 v3)
     return result;
 }
 
+/* dock::collect */
+static dock__Part dock__collect(usize v1, uint8_t *v2, slice_u8 v3)
+{
+    dock__Part result;
+    usize v4;
+    bool v5;
+    frames__Fault v6;
+    frames__Step v7;
+    usize v8;
+    usize v9;
+    const uint8_t *v10;
+    slice_u8 v11;
+    usize v12;
+    usize v13;
+    frames__Step v14;
+    uint8_t *v15;
+    slice_mut_u8 v16;
+    const uint8_t *v17;
+    slice_u8 v18;
+    v5 = 1563u <= v1;
+    if (v5) {
+        v6 = (frames__Fault){ .tag = 0u };
+        v7 = (frames__Step){ .tag = 2u, .as.v2.f1 = v6 };
+        v8 = v3.length;
+        result = (dock__Part){ .f0 = v7, .f1 = v8 };
+        return result;
+    }
+    v10 = v2;
+    v11 = (slice_u8){ .at = v10, .length = 1563u };
+    v9 = dock__reach(v1, v11, v3);
+    v12 = v9 - v1;
+    v13 = v3.length;
+    v4 = core__int__usize__min(v12, v13);
+    v15 = v2;
+    v16 = (slice_mut_u8){ .at = v15, .length = 1563u };
+    v17 = v3.at;
+    v18 = (slice_u8){ .at = v17, .length = v4 };
+    v14 = dock__put_behind(v1, v16, v18);
+    result = (dock__Part){ .f0 = v14, .f1 = v4 };
+    return result;
+}
+
 /* dock::Stream::resting */
 static frames__Step dock__Stream__resting(dock__Stream v1)
 {
@@ -1005,75 +1044,23 @@ static dock__Stream dock__Stream__after(frames__Step v1)
     return result;
 }
 
-/* dock::answered */
-static dock__Fed dock__answered(frames__Step v1, usize v2)
-{
-    dock__Fed result;
-    dock__Stream v3;
-    v3 = dock__Stream__after(v1);
-    result = (dock__Fed){ .f0 = v3, .f1 = v1, .f2 = v2 };
-    return result;
-}
-
-/* dock::collect */
-static dock__Fed dock__collect(usize v1, uint8_t *v2, slice_u8 v3)
-{
-    dock__Fed result;
-    usize v4;
-    frames__Step v5;
-    bool v6;
-    frames__Fault v7;
-    frames__Step v8;
-    usize v9;
-    usize v10;
-    const uint8_t *v11;
-    slice_u8 v12;
-    usize v13;
-    usize v14;
-    uint8_t *v15;
-    slice_mut_u8 v16;
-    const uint8_t *v17;
-    slice_u8 v18;
-    v6 = 1563u <= v1;
-    if (v6) {
-        v7 = (frames__Fault){ .tag = 0u };
-        v8 = (frames__Step){ .tag = 2u, .as.v2.f1 = v7 };
-        v9 = v3.length;
-        result = dock__answered(v8, v9);
-        return result;
-    }
-    v11 = v2;
-    v12 = (slice_u8){ .at = v11, .length = 1563u };
-    v10 = dock__reach(v1, v12, v3);
-    v13 = v10 - v1;
-    v14 = v3.length;
-    v4 = core__int__usize__min(v13, v14);
-    v15 = v2;
-    v16 = (slice_mut_u8){ .at = v15, .length = 1563u };
-    v17 = v3.at;
-    v18 = (slice_u8){ .at = v17, .length = v4 };
-    v5 = dock__put_behind(v1, v16, v18);
-    result = dock__answered(v5, v4);
-    return result;
-}
-
 /* dock::start_for_host */
 static dock_stream dock__start_for_host(void)
 {
     dock_stream result;
     dock__Stream v1;
     v1 = dock__Stream__start();
-    result = core__convert__AnyInto__into__dock__Stream__dock__HostStream(v1);
+    result = dock__HostStreamFromStream__from(v1);
     return result;
 }
 
 /* dock::Stream::take_part */
-static dock__Fed dock__Stream__take_part(dock__Stream v1, uint8_t *v2, slice_u8 v3)
+static dock__Part dock__Stream__take_part(dock__Stream v1, uint8_t *v2, slice_u8 v3)
 {
-    dock__Fed result;
+    dock__Part result;
     frames__FrameLength v4;
     frames__Fault v5;
-    dock__Fed v6;
+    dock__Part v6;
     usize v7;
     uint8_t *v8;
     frames__Step v9;
@@ -1090,7 +1077,7 @@ static dock__Fed dock__Stream__take_part(dock__Stream v1, uint8_t *v2, slice_u8 
         v5 = v1.as.v1.f1;
         v9 = (frames__Step){ .tag = 2u, .as.v2.f1 = v5 };
         v10 = v3.length;
-        v6 = dock__answered(v9, v10);
+        v6 = (dock__Part){ .f0 = v9, .f1 = v10 };
         break;
     }
     result = v6;
@@ -1103,14 +1090,14 @@ static dock__Fed dock__Stream__feed(dock__Stream v1, uint8_t *v2, slice_u8 v3)
     dock__Fed result;
     dock__Stream v4;
     usize v5;
-    dock__Fed v6;
+    dock__Part v6;
     usize v7;
     bool v8;
     uint8_t *v9;
     const uint8_t *v10;
     const uint8_t *v11;
     slice_u8 v12;
-    dock__Stream v13;
+    frames__Step v13;
     frames__Step v14;
     frames__Step v15;
     v4 = v1;
@@ -1127,9 +1114,10 @@ static dock__Fed dock__Stream__feed(dock__Stream v1, uint8_t *v2, slice_u8 v3)
         v11 = v10;
         v12 = (slice_u8){ .at = v11, .length = v7 };
         v6 = dock__Stream__take_part(v4, v9, v12);
-        v4 = v6.f0;
-        v5 = v5 + v6.f2;
-        switch (v6.f1.tag) {
+        v13 = v6.f0;
+        v4 = dock__Stream__after(v13);
+        v5 = v5 + v6.f1;
+        switch (v6.f0.tag) {
         case 0u:
             break;
         case 1u:
@@ -1137,9 +1125,8 @@ static dock__Fed dock__Stream__feed(dock__Stream v1, uint8_t *v2, slice_u8 v3)
         default:
             continue;
         }
-        v13 = v6.f0;
-        v14 = v6.f1;
-        result = (dock__Fed){ .f0 = v13, .f1 = v14, .f2 = v5 };
+        v14 = v6.f0;
+        result = (dock__Fed){ .f0 = v4, .f1 = v14, .f2 = v5 };
         return result;
     }
     v15 = dock__Stream__resting(v4);
@@ -1157,7 +1144,7 @@ static dock_fed dock__feed_for_host(dock_stream v1, uint8_t *v2, slice_u8 v3)
     v5 = dock__StreamFromHostStream__from(v1);
     v6 = v2;
     v4 = dock__Stream__feed(v5, v6, v3);
-    result = core__convert__AnyInto__into__dock__Fed__dock__HostFed(v4);
+    result = dock__HostFedFromFed__from(v4);
     return result;
 }
 

@@ -98,16 +98,6 @@ typedef struct core__iter__slices__Chunks__u8 {
     usize f1;
 } core__iter__slices__Chunks__u8;
 
-/* core::result::Result<u8, core::alloc::AllocError> */
-typedef struct core__result__Result__u8__AllocError {
-    uint8_t tag;
-    union {
-        struct {
-            uint8_t f1;
-        } v0;
-    } as;
-} core__result__Result__u8__AllocError;
-
 typedef struct array_u8_2 {
     uint8_t at[2];
 } array_u8_2;
@@ -190,11 +180,6 @@ typedef struct core__option__Option__slice_u8 {
     } as;
 } core__option__Option__slice_u8;
 
-typedef struct slice_mut_u8 {
-    uint8_t *at;
-    usize length;
-} slice_mut_u8;
-
 /* core::option::Option<size_t> */
 typedef struct core__option__Option__size {
     uint8_t tag;
@@ -232,6 +217,11 @@ typedef struct rules__Offset {
 typedef struct rules__Length {
     usize f0;
 } rules__Length;
+
+typedef struct slice_mut_u8 {
+    uint8_t *at;
+    usize length;
+} slice_mut_u8;
 
 /* reader::MetadataReader */
 typedef struct reader__MetadataReader {
@@ -281,10 +271,6 @@ typedef struct record__StoredObject {
 typedef struct rules__Slot {
     uint8_t tag;
 } rules__Slot;
-
-typedef struct array_usize_3 {
-    usize at[3];
-} array_usize_3;
 
 /* factory::Entry */
 typedef struct factory__Entry {
@@ -390,7 +376,6 @@ static bool core__cmp__slices__ElementMismatchPlaceTest__at__u8(const core__cmp_
 static core__ops__ControlFlow__NoValue__usize core__option__OptionTry__branch__usize(core__option__Option__usize v1);
 static core__ops__ControlFlow__ErrResidual__rules__Refusal__unit core__result__ResultTry__branch__unit__rules__Refusal(core__result__Result__unit__rules__Refusal v1);
 static core__iter__slices__Chunks__u8 core__iter__slices__slice_T__chunks__u8(slice_u8 v1, usize v2);
-static core__result__Result__u8__AllocError core__clone__U8Clone__clone(const uint8_t *v1);
 static bool core__cmp__numbers__U8PartialEq__eq(const uint8_t *v1, const uint8_t *v2);
 static usize core__slice__scan__first_by_one__ElementMismatch__u8(const core__cmp__slices__ElementMismatch__u8 *v1, usize v2, usize v3);
 static bool core__slice__scan__any_by_one__ElementMismatch__u8(const core__cmp__slices__ElementMismatch__u8 *v1, usize v2);
@@ -433,8 +418,6 @@ static array_u8_4 core__int__u32__to_be_bytes(uint32_t v1);
 static array_u8_2 core__int__u16__to_le_bytes(uint16_t v1);
 static array_u8_4 core__int__u32__to_le_bytes(uint32_t v1);
 static void core__assertions__unreachable(void);
-static uint8_t core__clone__surely__u8(const uint8_t *v1);
-static void core__slice__edits__slice_T__fill__u8(slice_mut_u8 v1, uint8_t v2);
 static const size_t *core__option__Option__unwrap__ref_size(core__option__Option__ref_size v1);
 static core__option__Option__size core__option__more__Option_ref_T__copied__size(core__option__Option__ref_size v1);
 static usize core__option__Option__unwrap_or__size(core__option__Option__size v1, usize v2);
@@ -446,7 +429,6 @@ static rules__Length bounds__shown_length(rules__Offset v1, rules__Length v2, ru
 static bool bounds__too_long(rules__Length v1, usize v2);
 static core__result__Result__unit__rules__Refusal bounds__fitting(rules__Length v1, usize v2);
 static core__result__Result__unit__rules__Refusal bounds__judge_read(rules__Offset v1, rules__Length v2, rules__Length v3, usize v4);
-static void primitives__Destruct__none__drop__u8(uint8_t v1);
 static bool primitives__all_zero(slice_u8 v1);
 static uint32_t primitives__big_endian_4_at(slice_u8 v1, usize v2);
 static uint16_t primitives__big_endian_at(slice_u8 v1, usize v2);
@@ -487,6 +469,7 @@ static record__StoredObject record__StoredObject__at(slice_u8 v1, usize v2);
 static slice_u8 record__counted(slice_u8 v1, usize v2);
 static bool record__counter_sizes(rules__Length v1, slice_u8 v2);
 static slice_u8 record__StoredObject__data(const record__StoredObject *v1, rules__Offset v2, rules__Length v3);
+static usize record__data_end(slice_u8 v1, usize v2);
 static bool record__filled_by_condition(slice_u8 v1);
 static bool record__filled_by_one(slice_u8 v1);
 static bool record__in_session(rules__ObjectNumber v1);
@@ -501,8 +484,7 @@ static bool record__kind_ok(uint16_t v1, rules__Length v2, slice_u8 v3);
 static uint8_t record__StoredObject__lcso(const record__StoredObject *v1);
 static usize record__length_at(slice_u8 v1, usize v2);
 static rules__Length record__StoredObject__maximum(const record__StoredObject *v1);
-static usize record__data_end(slice_u8 v1, usize v2);
-static rules__ObjectNumber record__StoredObject__number(const record__StoredObject *v1);
+static rules__ObjectNumber record__number_at(slice_u8 v1, usize v2);
 static void record__put_fixed(slice_mut_u8 v1, rules__ObjectNumber v2, rules__Length v3);
 static void record__put_slot(slice_mut_u8 v1, usize v2, slice_u8 v3);
 static void record__set_used(slice_mut_u8 v1, usize v2, usize v3);
@@ -581,7 +563,6 @@ static void act__act_on_record(rules__Action v1, slice_u8 v2, slice_mut_u8 v3, u
 static rules__Session act__shown_session(rules__ObjectNumber v1, rules__Length v2, rules__Session v3);
 static rules__Session act__show_byte(slice_u8 v1, rules__ObjectNumber v2, uint8_t v3, rules__Session v4, slice_mut_u8 v5);
 static rules__Session act__act_in_session(rules__Action v1, slice_u8 v2, rules__ObjectNumber v3, uint8_t v4, rules__Session v5, slice_mut_u8 v6);
-static uint16_t store__number_at(slice_u8 v1, usize v2);
 static bool store__check_store(slice_u8 v1);
 static core__option__Option__usize store__find_record(slice_u8 v1, rules__ObjectNumber v2);
 static core__option__Option__u16 access__counter_named(slice_u8 v1);
@@ -823,16 +804,6 @@ static core__iter__slices__Chunks__u8 core__iter__slices__slice_T__chunks__u8(sl
 {
     core__iter__slices__Chunks__u8 result;
     result = (core__iter__slices__Chunks__u8){ .f0 = v1, .f1 = v2 };
-    return result;
-}
-
-/* core::clone::U8Clone::clone */
-static core__result__Result__u8__AllocError core__clone__U8Clone__clone(const uint8_t *v1)
-{
-    core__result__Result__u8__AllocError result;
-    uint8_t v2;
-    v2 = *v1;
-    result = (core__result__Result__u8__AllocError){ .tag = 0u, .as.v0.f1 = v2 };
     return result;
 }
 
@@ -1748,82 +1719,6 @@ static void core__assertions__unreachable(void)
     }
 }
 
-/* core::clone::surely<u8> */
-static uint8_t core__clone__surely__u8(const uint8_t *v1)
-{
-    uint8_t result;
-    uint8_t v2;
-    core__result__Result__u8__AllocError v3;
-    uint8_t v4;
-    v3 = core__clone__U8Clone__clone(v1);
-    switch (v3.tag) {
-    case 0u:
-        v2 = v3.as.v0.f1;
-        v4 = v2;
-        break;
-    case 1u:
-    default:
-        core__assertions__unreachable();
-        for (;;) { /* never */
-        }
-    }
-    result = v4;
-    return result;
-}
-
-/* core::slice::edits::slice+T::fill<u8> */
-static void core__slice__edits__slice_T__fill__u8(slice_mut_u8 v1, uint8_t v2)
-{
-    uint8_t v3;
-    usize v4;
-    usize v5;
-    bool v6;
-    usize v7;
-    bool v8;
-    uint8_t v9;
-    const uint8_t *v10;
-    uint8_t *v11;
-    uint8_t v12;
-    usize v13;
-    usize v14;
-    uint8_t *v15;
-    uint8_t v16;
-    uint8_t v18;
-    uint8_t v19;
-    v3 = v2;
-    v4 = v1.length;
-    v6 = v4 == 0u;
-    if (v6) {
-        v16 = v3;
-        primitives__Destruct__none__drop__u8(v16);
-        return;
-    }
-    v5 = 0u;
-    for (;;) {
-        v7 = v4 - 1u;
-        v8 = v5 < v7;
-        if (!v8) {
-            break;
-        }
-        v10 = &v3;
-        v9 = core__clone__surely__u8(v10);
-        v7 = v5 * 1u;
-        v11 = v1.at + v7;
-        v18 = *v11;
-        *v11 = v9;
-        primitives__Destruct__none__drop__u8(v18);
-        v5 = v5 + 1u;
-    }
-    v12 = v3;
-    v13 = v4 - 1u;
-    v14 = v13 * 1u;
-    v15 = v1.at + v14;
-    v19 = *v15;
-    *v15 = v12;
-    primitives__Destruct__none__drop__u8(v19);
-    return;
-}
-
 /* core::option::Option::unwrap<&size_t> */
 static const size_t *core__option__Option__unwrap__ref_size(core__option__Option__ref_size v1)
 {
@@ -2070,13 +1965,6 @@ static core__result__Result__unit__rules__Refusal bounds__judge_read(rules__Offs
     return result;
 }
 
-/* primitives::Destruct++none::drop<u8> */
-static void primitives__Destruct__none__drop__u8(uint8_t v1)
-{
-    (void)v1;
-    return;
-}
-
 /* primitives::all_zero */
 static bool primitives__all_zero(slice_u8 v1)
 {
@@ -2161,11 +2049,21 @@ static uint16_t primitives__big_endian_at(slice_u8 v1, usize v2)
 /* primitives::clear */
 static void primitives__clear(slice_mut_u8 v1)
 {
-    uint8_t *v3;
-    slice_mut_u8 v4;
-    v3 = v1.at;
-    v4 = (slice_mut_u8){ .at = v3, .length = v1.length };
-    core__slice__edits__slice_T__fill__u8(v4, 0u);
+    usize v2;
+    usize v3;
+    bool v4;
+    uint8_t *v5;
+    v2 = 0u;
+    v3 = v1.length;
+    for (;;) {
+        v4 = v2 < v3;
+        if (!v4) {
+            break;
+        }
+        v5 = v1.at + v2;
+        *v5 = 0u;
+        v2 = v2 + 1u;
+    }
     return;
 }
 
@@ -2334,7 +2232,7 @@ static void primitives__put_zeros(slice_mut_u8 v1, usize v2, usize v3)
     v7 = v5 - v2;
     v8 = v6;
     v9 = (slice_mut_u8){ .at = v8, .length = v7 };
-    core__slice__edits__slice_T__fill__u8(v9, 0u);
+    primitives__clear(v9);
     return;
 }
 
@@ -3171,6 +3069,22 @@ static slice_u8 record__StoredObject__data(const record__StoredObject *v1, rules
     return result;
 }
 
+/* record::data_end */
+static usize record__data_end(slice_u8 v1, usize v2)
+{
+    usize result;
+    usize v3;
+    uint16_t v4;
+    usize v5;
+    usize v6;
+    v3 = v2 + 96u;
+    v5 = v2 + 6u;
+    v4 = primitives__little_endian_at(v1, v5);
+    v6 = (usize)v4;
+    result = v3 + v6;
+    return result;
+}
+
 /* record::filled_by_condition */
 static bool record__filled_by_condition(slice_u8 v1)
 {
@@ -3549,37 +3463,15 @@ static rules__Length record__StoredObject__maximum(const record__StoredObject *v
     return result;
 }
 
-/* record::data_end */
-static usize record__data_end(slice_u8 v1, usize v2)
-{
-    usize result;
-    usize v3;
-    rules__Length v4;
-    record__StoredObject v5;
-    record__StoredObject v6;
-    const record__StoredObject *v7;
-    v3 = v2 + 96u;
-    v5 = record__StoredObject__at(v1, v2);
-    v6 = v5;
-    v7 = &v6;
-    v4 = record__StoredObject__maximum(v7);
-    result = v3 + v4.f0;
-    return result;
-}
-
-/* record::StoredObject::number */
-static rules__ObjectNumber record__StoredObject__number(const record__StoredObject *v1)
+/* record::number_at */
+static rules__ObjectNumber record__number_at(slice_u8 v1, usize v2)
 {
     rules__ObjectNumber result;
-    uint16_t v2;
-    slice_u8 v3;
+    uint16_t v3;
     usize v4;
-    usize v5;
-    v3 = v1->f0;
-    v4 = v1->f1;
-    v5 = v4 + 4u;
-    v2 = primitives__little_endian_at(v3, v5);
-    result = (rules__ObjectNumber){ .f0 = v2 };
+    v4 = v2 + 4u;
+    v3 = primitives__little_endian_at(v1, v4);
+    result = (rules__ObjectNumber){ .f0 = v3 };
     return result;
 }
 
@@ -3859,47 +3751,35 @@ static bool record__slot_ok(slice_u8 v1)
 static bool record__slots_ok(slice_u8 v1)
 {
     bool result;
-    array_usize_3 v2;
+    usize v2;
     usize v3;
-    usize v4;
-    array_usize_3 v5;
-    bool v6;
+    bool v4;
+    usize v5;
+    const uint8_t *v6;
     usize v7;
-    usize *v8;
-    usize *v9;
-    usize v10;
-    bool v11;
-    usize v12;
-    const uint8_t *v13;
-    usize v14;
-    const uint8_t *v15;
-    slice_u8 v16;
-    bool v17;
-    v5 = (array_usize_3){ { 12u, 40u, 68u } };
-    v2 = v5;
-    v3 = 0u;
+    const uint8_t *v8;
+    slice_u8 v9;
+    bool v10;
+    v2 = 0u;
     for (;;) {
-        v6 = v3 < 3u;
-        if (!v6) {
+        v4 = v2 < 3u;
+        if (!v4) {
             break;
         }
-        v7 = v3 * 8u;
-        v8 = v2.at;
-        v9 = v8 + v7 / 8u;
-        v10 = *v9;
-        v4 = v10;
-        v12 = v4 + 28u;
-        v13 = v1.at + v4;
-        v14 = v12 - v4;
-        v15 = v13;
-        v16 = (slice_u8){ .at = v15, .length = v14 };
-        v11 = record__slot_ok(v16);
-        v17 = !v11;
-        if (v17) {
+        v5 = v2 * 28u;
+        v3 = (usize)12u + v5;
+        v5 = v3 + 28u;
+        v6 = v1.at + v3;
+        v7 = v5 - v3;
+        v8 = v6;
+        v9 = (slice_u8){ .at = v8, .length = v7 };
+        v4 = record__slot_ok(v9);
+        v10 = !v4;
+        if (v10) {
             result = false;
             return result;
         }
-        v3 = v3 + 1u;
+        v2 = v2 + 1u;
     }
     result = true;
     return result;
@@ -5897,22 +5777,6 @@ static rules__Session act__act_in_session(rules__Action v1, slice_u8 v2, rules__
     return result;
 }
 
-/* store::number_at */
-static uint16_t store__number_at(slice_u8 v1, usize v2)
-{
-    uint16_t result;
-    rules__ObjectNumber v3;
-    record__StoredObject v4;
-    record__StoredObject v5;
-    const record__StoredObject *v6;
-    v4 = record__StoredObject__at(v1, v2);
-    v5 = v4;
-    v6 = &v5;
-    v3 = record__StoredObject__number(v6);
-    result = v3.f0;
-    return result;
-}
-
 /* store::check_store */
 static bool store__check_store(slice_u8 v1)
 {
@@ -5932,7 +5796,7 @@ static bool store__check_store(slice_u8 v1)
     const uint8_t *v14;
     slice_u8 v15;
     bool v16;
-    uint16_t v17;
+    rules__ObjectNumber v17;
     v9 = v1.length;
     v10 = 16384u < v9;
     if (v10) {
@@ -5971,8 +5835,8 @@ static bool store__check_store(slice_u8 v1)
             result = false;
             return result;
         }
-        v17 = store__number_at(v1, v2);
-        v8 = (usize)v17;
+        v17 = record__number_at(v1, v2);
+        v8 = (usize)v17.f0;
         v11 = v8 < v3;
         if (v11) {
             result = false;
@@ -6000,6 +5864,7 @@ static core__option__Option__usize store__find_record(slice_u8 v1, rules__Object
     uint16_t v5;
     usize v6;
     bool v7;
+    rules__ObjectNumber v8;
     v3 = 0u;
     for (;;) {
         v6 = v1.length;
@@ -6008,7 +5873,8 @@ static core__option__Option__usize store__find_record(slice_u8 v1, rules__Object
             break;
         }
         v4 = record__data_end(v1, v3);
-        v5 = store__number_at(v1, v3);
+        v8 = record__number_at(v1, v3);
+        v5 = v8.f0;
         v7 = v2.f0 < v5;
         if (v7) {
             result = (core__option__Option__usize){ .tag = 0u };
