@@ -1,14 +1,12 @@
 -- Laws of copies and of bytes put at a place.
 use Prim.Native.Nat.{ℕ, ◌+◌, ◌<◌, ◌≤◌}
 use mathlib.Core.Path.{◌≡◌, sym, ap, ◌∙◌}
-use mathlib.Core.List.{List, ◌++◌, append-nil, append_assoc}
-use lib.ListN.{length, get_or, take, drop, set, length-drop, length-take, length-append, take-append-drop, drop_of_length-le}
+use mathlib.Core.List.{List, ◌++◌, append_assoc}
+use lib.ListN.{length, get_or, take, drop, set, length-drop, length-take, length-append, take-append-drop}
 use lib.Seq.{drop-drop, take-length, take_at, drop_at, paste, paste-suc}
-use borrow.Author.Fill.{fill_more}
 use native.Mathlib.Omega.{arith}
 use native.Mathlib.Nat.{add_assoc}
 use native.Mathlib.Numerals.{add-one}
-use Rattle.rules.specs.Basic.{zeros}
 use Rattle.primitives.specs.Bytes.{over}
 
 -- `put`: the first i bytes
@@ -21,15 +19,6 @@ unfolding over
 put_end d₀ d s at i inv h k =
     let e : i ≡ length s = omega arith in
     rw (inv, e, take-length) (append_assoc (take at d₀) _ _)
-
--- `clear`: the first i bytes
-pub clear_turn : (d₀ d : List ℕ) (i : ℕ) → d ≡ zeros i ++ drop i d₀ → i < length d₀ → set d i 0 ≡ zeros (i + 1) ++ drop (i + 1) d₀
-clear_turn d₀ d i inv h = rw inv (fill_more i 0 d₀ h)
-
-pub clear_end : (d₀ d : List ℕ) (i : ℕ) → d ≡ zeros i ++ drop i d₀ → i ≤ length d₀ → length d₀ ≤ i → d ≡ zeros (length d₀)
-clear_end d₀ d i inv h k =
-    let e : i ≡ length d₀ = omega arith in
-    inv ∙ rw (e, drop_of_length-le d₀ {i = length d₀} (omega arith), append-nil)
 
 -- bytes over a part -----------------------------------------------------------------------------------------------------
 

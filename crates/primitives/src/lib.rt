@@ -85,13 +85,11 @@ pub fn put_little_endian_4(dst: &mut [u8], at: usize, n: u32)
     put(dst, at, &n.to_le_bytes());
 }
 
-// Zeros all of dst: a loop, since C compilers make memset of it, and of the library's fill they do not.
+// Zeros all of dst.
 pub fn clear(dst: &mut [u8])
     ensures { dst.new ≡ zeros (length dst.old) }
 {
-    for i in 0..dst.len() {
-        dst[i] = 0;
-    }
+    dst.fill(0);
 }
 
 // Puts n zeros at a place of dst.
@@ -101,7 +99,7 @@ pub fn put_zeros(dst: &mut [u8], at: usize, n: usize)
     requires { at + n ≤ length dst.old }
     ensures { dst.new ≡ over at (zeros n) dst.old }
 {
-    clear(&mut dst[at..at + n]);
+    dst[at..at + n].fill(0);
 }
 
 // Zeros all of dst but src, which is put at a place of it.
