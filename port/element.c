@@ -98,6 +98,16 @@ typedef struct core__iter__slices__Chunks__u8 {
     usize f1;
 } core__iter__slices__Chunks__u8;
 
+/* core::result::Result<u8, core::alloc::AllocError> */
+typedef struct core__result__Result__u8__AllocError {
+    uint8_t tag;
+    union {
+        struct {
+            uint8_t f1;
+        } v0;
+    } as;
+} core__result__Result__u8__AllocError;
+
 typedef struct array_u8_2 {
     uint8_t at[2];
 } array_u8_2;
@@ -180,6 +190,11 @@ typedef struct core__option__Option__slice_u8 {
     } as;
 } core__option__Option__slice_u8;
 
+typedef struct slice_mut_u8 {
+    uint8_t *at;
+    usize length;
+} slice_mut_u8;
+
 /* core::option::Option<size_t> */
 typedef struct core__option__Option__size {
     uint8_t tag;
@@ -217,11 +232,6 @@ typedef struct rules__Offset {
 typedef struct rules__Length {
     usize f0;
 } rules__Length;
-
-typedef struct slice_mut_u8 {
-    uint8_t *at;
-    usize length;
-} slice_mut_u8;
 
 /* reader::MetadataReader */
 typedef struct reader__MetadataReader {
@@ -376,6 +386,7 @@ static bool core__cmp__slices__ElementMismatchPlaceTest__at__u8(const core__cmp_
 static core__ops__ControlFlow__NoValue__usize core__option__OptionTry__branch__usize(core__option__Option__usize v1);
 static core__ops__ControlFlow__ErrResidual__rules__Refusal__unit core__result__ResultTry__branch__unit__rules__Refusal(core__result__Result__unit__rules__Refusal v1);
 static core__iter__slices__Chunks__u8 core__iter__slices__slice_T__chunks__u8(slice_u8 v1, usize v2);
+static core__result__Result__u8__AllocError core__clone__U8Clone__clone(const uint8_t *v1);
 static bool core__cmp__numbers__U8PartialEq__eq(const uint8_t *v1, const uint8_t *v2);
 static usize core__slice__scan__first_by_one__ElementMismatch__u8(const core__cmp__slices__ElementMismatch__u8 *v1, usize v2, usize v3);
 static bool core__slice__scan__any_by_one__ElementMismatch__u8(const core__cmp__slices__ElementMismatch__u8 *v1, usize v2);
@@ -418,6 +429,8 @@ static array_u8_4 core__int__u32__to_be_bytes(uint32_t v1);
 static array_u8_2 core__int__u16__to_le_bytes(uint16_t v1);
 static array_u8_4 core__int__u32__to_le_bytes(uint32_t v1);
 static void core__assertions__unreachable(void);
+static uint8_t core__clone__surely__u8(const uint8_t *v1);
+static void core__slice__edits__slice_T__fill__u8(slice_mut_u8 v1, uint8_t v2);
 static const size_t *core__option__Option__unwrap__ref_size(core__option__Option__ref_size v1);
 static core__option__Option__size core__option__more__Option_ref_T__copied__size(core__option__Option__ref_size v1);
 static usize core__option__Option__unwrap_or__size(core__option__Option__size v1, usize v2);
@@ -429,6 +442,7 @@ static rules__Length bounds__shown_length(rules__Offset v1, rules__Length v2, ru
 static bool bounds__too_long(rules__Length v1, usize v2);
 static core__result__Result__unit__rules__Refusal bounds__fitting(rules__Length v1, usize v2);
 static core__result__Result__unit__rules__Refusal bounds__judge_read(rules__Offset v1, rules__Length v2, rules__Length v3, usize v4);
+static void primitives__Destruct__none__drop__u8(uint8_t v1);
 static bool primitives__all_zero(slice_u8 v1);
 static uint32_t primitives__big_endian_4_at(slice_u8 v1, usize v2);
 static uint16_t primitives__big_endian_at(slice_u8 v1, usize v2);
@@ -804,6 +818,16 @@ static core__iter__slices__Chunks__u8 core__iter__slices__slice_T__chunks__u8(sl
 {
     core__iter__slices__Chunks__u8 result;
     result = (core__iter__slices__Chunks__u8){ .f0 = v1, .f1 = v2 };
+    return result;
+}
+
+/* core::clone::U8Clone::clone */
+static core__result__Result__u8__AllocError core__clone__U8Clone__clone(const uint8_t *v1)
+{
+    core__result__Result__u8__AllocError result;
+    uint8_t v2;
+    v2 = *v1;
+    result = (core__result__Result__u8__AllocError){ .tag = 0u, .as.v0.f1 = v2 };
     return result;
 }
 
@@ -1719,6 +1743,82 @@ static void core__assertions__unreachable(void)
     }
 }
 
+/* core::clone::surely<u8> */
+static uint8_t core__clone__surely__u8(const uint8_t *v1)
+{
+    uint8_t result;
+    uint8_t v2;
+    core__result__Result__u8__AllocError v3;
+    uint8_t v4;
+    v3 = core__clone__U8Clone__clone(v1);
+    switch (v3.tag) {
+    case 0u:
+        v2 = v3.as.v0.f1;
+        v4 = v2;
+        break;
+    case 1u:
+    default:
+        core__assertions__unreachable();
+        for (;;) { /* never */
+        }
+    }
+    result = v4;
+    return result;
+}
+
+/* core::slice::edits::slice+T::fill<u8> */
+static void core__slice__edits__slice_T__fill__u8(slice_mut_u8 v1, uint8_t v2)
+{
+    uint8_t v3;
+    usize v4;
+    usize v5;
+    bool v6;
+    usize v7;
+    bool v8;
+    uint8_t v9;
+    const uint8_t *v10;
+    uint8_t *v11;
+    uint8_t v12;
+    usize v13;
+    usize v14;
+    uint8_t *v15;
+    uint8_t v16;
+    uint8_t v18;
+    uint8_t v19;
+    v3 = v2;
+    v4 = v1.length;
+    v6 = v4 == 0u;
+    if (v6) {
+        v16 = v3;
+        primitives__Destruct__none__drop__u8(v16);
+        return;
+    }
+    v5 = 0u;
+    for (;;) {
+        v7 = v4 - 1u;
+        v8 = v5 < v7;
+        if (!v8) {
+            break;
+        }
+        v10 = &v3;
+        v9 = core__clone__surely__u8(v10);
+        v7 = v5 * 1u;
+        v11 = v1.at + v7;
+        v18 = *v11;
+        *v11 = v9;
+        primitives__Destruct__none__drop__u8(v18);
+        v5 = v5 + 1u;
+    }
+    v12 = v3;
+    v13 = v4 - 1u;
+    v14 = v13 * 1u;
+    v15 = v1.at + v14;
+    v19 = *v15;
+    *v15 = v12;
+    primitives__Destruct__none__drop__u8(v19);
+    return;
+}
+
 /* core::option::Option::unwrap<&size_t> */
 static const size_t *core__option__Option__unwrap__ref_size(core__option__Option__ref_size v1)
 {
@@ -1965,6 +2065,13 @@ static core__result__Result__unit__rules__Refusal bounds__judge_read(rules__Offs
     return result;
 }
 
+/* primitives::Destruct++none::drop<u8> */
+static void primitives__Destruct__none__drop__u8(uint8_t v1)
+{
+    (void)v1;
+    return;
+}
+
 /* primitives::all_zero */
 static bool primitives__all_zero(slice_u8 v1)
 {
@@ -2049,21 +2156,11 @@ static uint16_t primitives__big_endian_at(slice_u8 v1, usize v2)
 /* primitives::clear */
 static void primitives__clear(slice_mut_u8 v1)
 {
-    usize v2;
-    usize v3;
-    bool v4;
-    uint8_t *v5;
-    v2 = 0u;
-    v3 = v1.length;
-    for (;;) {
-        v4 = v2 < v3;
-        if (!v4) {
-            break;
-        }
-        v5 = v1.at + v2;
-        *v5 = 0u;
-        v2 = v2 + 1u;
-    }
+    uint8_t *v3;
+    slice_mut_u8 v4;
+    v3 = v1.at;
+    v4 = (slice_mut_u8){ .at = v3, .length = v1.length };
+    core__slice__edits__slice_T__fill__u8(v4, 0u);
     return;
 }
 
@@ -2232,7 +2329,7 @@ static void primitives__put_zeros(slice_mut_u8 v1, usize v2, usize v3)
     v7 = v5 - v2;
     v8 = v6;
     v9 = (slice_mut_u8){ .at = v8, .length = v7 };
-    primitives__clear(v9);
+    core__slice__edits__slice_T__fill__u8(v9, 0u);
     return;
 }
 
