@@ -139,7 +139,7 @@ fn check_right(bytes: &[u8]) -> bool
 }
 
 // Judges the bytes of a frame so far: by the check too where all are there. `Whole` is made anew: the answer handed on is copied through
-// memory by gcc, and `dock_feed` took half as long again.
+// memory by gcc, and `dock_feed`, byte by byte, took a third as long again.
 #[tactic(auto, using(crate::proofs::Judgments::whole_long), unfolding(crate::specs::Frames::judged, crate::specs::Frames::checked))]
 pub fn judge(bytes: &[u8]) -> Step
     ensures { result ≡ judged bytes.now }
