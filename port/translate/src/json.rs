@@ -179,6 +179,36 @@ impl Json {
         }
     }
 
+    /// The value of an object's key, if it has that key.
+    pub fn field(&self, key: &str) -> Option<&Json> {
+        match self {
+            Json::Object(parts) => parts
+                .iter()
+                .find(|(name, _)| name == key)
+                .map(|part| &part.1),
+            _ => None,
+        }
+    }
+
+    /// The JSON with other parts where there are such, found from the outside in.
+    pub fn replaced(&self, other: &impl Fn(&Json) -> Answer<Option<Json>>) -> Answer<Json> {
+        if let Some(other) = other(self)? {
+            return Ok(other);
+        }
+        Ok(match self {
+            Json::List(parts) => {
+                let parts = parts.iter().map(|part| part.replaced(other));
+                Json::List(parts.collect::<Answer<_>>()?)
+            }
+            Json::Object(parts) => {
+                let parts = parts.iter();
+                let parts = parts.map(|(key, part)| Ok((key.clone(), part.replaced(other)?)));
+                Json::Object(parts.collect::<Answer<_>>()?)
+            }
+            plain => plain.clone(),
+        })
+    }
+
     pub fn list(&self) -> Answer<&[Json]> {
         match self {
             Json::List(parts) => Ok(parts),

@@ -3,6 +3,7 @@
 use super::grammar::{node, parts_of, Sort, Tree};
 use crate::json::Json;
 use crate::read::{DECLARED, FUNCTION, GENERICS, IMPL, MAY_BE_IN_GENERICS};
+use std::collections::BTreeSet;
 
 type Read = Result<Tree, String>;
 
@@ -52,39 +53,81 @@ fn all_bounds(lifetimes: &Json, outlives: &Json, by_types: &Json) -> Result<Json
     Ok(Json::List(all))
 }
 
-/// The function without a table that says nothing of it: no type that it has is spelled, for each declared one stands behind a reference.
-/// The terms leave such a table out.
-pub fn unspelled(code: Tree) -> Tree {
-    match code.parts("spell_fn") {
-        [_, item] if !holds_declared(item) => item.clone(),
-        _ => code,
+/// The function with those types of its table that it has other than behind a reference, and those that these are made of so. The terms spell
+/// no others, and where there are none, they have no table.
+pub fn spelled(code: Tree) -> Tree {
+    let [table, item] = code.parts("spell_fn") else {
+        return code;
+    };
+    let names = held_types(table, item);
+    let kept = members(table).filter(|(name, _)| names.contains(name));
+    let kept: Vec<&Tree> = kept.map(|(_, declared)| declared).collect();
+    if kept.is_empty() {
+        return item.clone();
+    }
+    let nil = Tree::Node("nil".to_string(), Vec::new());
+    let table = kept.into_iter().rev().fold(nil, |rest, declared| {
+        Tree::Node("cons".to_string(), vec![declared.clone(), rest])
+    });
+    Tree::Node("spell_fn".to_string(), vec![table, item.clone()])
+}
+
+fn held_types<'a>(table: &'a Tree, item: &'a Tree) -> BTreeSet<&'a str> {
+    let mut names = BTreeSet::new();
+    add_held_types(item, &mut names);
+    loop {
+        let before = names.len();
+        for (name, declared) in members(table) {
+            if names.contains(name) {
+                add_held_types(declared, &mut names);
+            }
+        }
+        if names.len() == before {
+            return names;
+        }
     }
 }
 
-fn holds_declared(tree: &Tree) -> bool {
-    match tree {
-        Tree::Node(form, _) if form == "ty_ref" => false,
-        Tree::Node(form, parts) => form == "ty_named" || parts.iter().any(holds_declared),
-        _ => false,
+/// Adds the names of the declared types that stand here other than behind a reference.
+fn add_held_types<'a>(tree: &'a Tree, names: &mut BTreeSet<&'a str>) {
+    let Tree::Node(form, parts) = tree else {
+        return;
+    };
+    if form == "ty_ref" {
+        return;
     }
+    if let [head, _] = tree.parts("ty_named") {
+        if let [Tree::Text(name), _] = head.parts("pair") {
+            names.insert(name);
+        }
+    }
+    parts.iter().for_each(|part| add_held_types(part, names));
+}
+
+/// The declared types of a table, with their names.
+fn members(mut table: &Tree) -> impl Iterator<Item = (&str, &Tree)> {
+    std::iter::from_fn(move || {
+        let [declared, rest] = table.parts("cons") else {
+            return None;
+        };
+        table = rest;
+        match declared.parts("pair") {
+            [Tree::Text(name), ..] => Some((name.as_str(), declared)),
+            _ => None,
+        }
+    })
 }
 
 /// The MIR with the methods of each impl that a dictionary is in place of its name, as the terms have it.
 fn with_methods(found: &Json, impls: &[Json]) -> Result<Json, String> {
-    let within = |part: &Json| with_methods(part, impls);
-    if let ("Impl", [name @ Json::Text(_), types, dictionaries]) = found.form() {
+    found.replaced(&|part| {
+        let ("Impl", [name @ Json::Text(_), types, dictionaries]) = part.form() else {
+            return Ok(None);
+        };
+        let within = |part: &Json| with_methods(part, impls);
         let parts = vec![methods(name, impls)?, within(types)?, within(dictionaries)?];
-        return Ok(Json::Object(vec![("Impl".to_string(), Json::List(parts))]));
-    }
-    Ok(match found {
-        Json::List(parts) => Json::List(parts.iter().map(within).collect::<Result<_, _>>()?),
-        Json::Object(parts) => {
-            let parts = parts
-                .iter()
-                .map(|(key, part)| Ok((key.clone(), within(part)?)));
-            Json::Object(parts.collect::<Result<_, String>>()?)
-        }
-        other => other.clone(),
+        let dictionary = vec![("Impl".to_string(), Json::List(parts))];
+        Ok(Some(Json::Object(dictionary)))
     })
 }
 

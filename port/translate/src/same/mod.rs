@@ -3,6 +3,6 @@
 mod antt;
 pub mod difference;
 pub mod grammar;
-pub mod kit;
 pub mod library;
+pub mod modules;
 pub mod terms;

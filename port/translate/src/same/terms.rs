@@ -2,22 +2,26 @@
 
 use super::antt::{Module, Term};
 use super::grammar::{node, number, Sort, Tree};
-use super::kit;
+use super::modules::Modules;
 use std::path::Path;
 
 /// What a function's name stands for in the program that its proof is about: that program is
 /// `Wired.node MEMBERS .. CALLED` in its Code.antt, the members a list of names with their code.
-pub fn code(terms: &Path, function: &str) -> Result<Tree, String> {
+pub fn code(terms: &Path, modules: &Modules, function: &str) -> Result<Tree, String> {
     let (owner, name) = function.split_once("::").ok_or("its name has no crate")?;
     let name = name.replace("::", ".");
-    let scope = Scope::open(terms, &format!("Rattle.{owner}.proofs.{name}.Code"))?;
+    let scope = Scope::open(
+        terms,
+        modules,
+        &format!("Rattle.{owner}.proofs.{name}.Code"),
+    )?;
     let members = scope.members()?;
     let alone = match members.parts("cons") {
         [member, rest] if rest.parts("cons").is_empty() => member.parts("pair"),
         _ => &[],
     };
     match alone {
-        [Tree::Text(name), code] if name == function => Ok(code.clone()),
+        [Tree::Text(name), code] if name == function => Ok(without_empty_table(code)),
         _ => Err(format!(
             "the program must be it alone, and is {}",
             members.brief()
@@ -25,15 +29,24 @@ pub fn code(terms: &Path, function: &str) -> Result<Tree, String> {
     }
 }
 
+fn without_empty_table(code: &Tree) -> Tree {
+    match code.parts("spell_fn") {
+        [table, item] if table.parts("cons").is_empty() => item.clone(),
+        _ => code.clone(),
+    }
+}
+
 /// The module that says what the names in a term are.
 struct Scope<'a> {
     terms: &'a Path,
+    /// The kit's libraries, of which the folder has no terms.
+    modules: &'a Modules,
     module: Module,
 }
 
 impl Scope<'_> {
     /// The module at a path as `Rattle.CRATE.proofs.a.b`, which is a/b.antt in the folder Rattle-CRATE-proofs.
-    fn open<'a>(terms: &'a Path, path: &str) -> Result<Scope<'a>, String> {
+    fn open<'a>(terms: &'a Path, modules: &'a Modules, path: &str) -> Result<Scope<'a>, String> {
         let mut steps = path.split('.');
         let library: Vec<&str> = steps.by_ref().take(3).collect();
         let within: Vec<&str> = steps.collect();
@@ -44,7 +57,11 @@ impl Scope<'_> {
         let source = std::fs::read_to_string(&file);
         let source = source.map_err(|wrong| format!("the file {shown} is expected: {wrong}"))?;
         let module = Module::new(&source).map_err(|wrong| format!("the file {shown}: {wrong}"))?;
-        Ok(Scope { terms, module })
+        Ok(Scope {
+            terms,
+            modules,
+            module,
+        })
     }
 
     /// The functions of the program that `code` is, without those that it only calls.
@@ -85,12 +102,18 @@ impl Scope<'_> {
             };
         }
         match self.module.used(name) {
-            Some((path, _)) if self.is_of_kit(path) => Ok(kit_name(path)),
+            Some((path, _)) if self.is_of_kit(path) => self.kit_name(path),
             Some((path, member)) if path.starts_with("Rattle.") => {
-                Scope::open(self.terms, path)?.called(member)
+                Scope::open(self.terms, self.modules, path)?.called(member)
             }
             _ => Err(format!("`{name}` is not known as a function")),
         }
+    }
+
+    /// The name of a function of the kit, by the module of its symbol as others see it.
+    fn kit_name(&self, path: &str) -> Result<Tree, String> {
+        let name = self.modules.symbol(&path.replacen('.', "-", 1))?;
+        Ok(Tree::Text(name))
     }
 
     /// A name with its parts: a definition of a crate is unfolded, a name of the logic is a form.
@@ -100,10 +123,10 @@ impl Scope<'_> {
         }
         let form = match (self.module.used(name), parts) {
             (Some((path, _)), []) if sort == "Callee" && self.is_of_kit(path) => {
-                return Ok(Tree::Node("fn₀".to_string(), vec![kit_name(path)]));
+                return Ok(Tree::Node("fn₀".to_string(), vec![self.kit_name(path)?]));
             }
             (Some((path, member)), []) if path.starts_with("Rattle.") => {
-                return Scope::open(self.terms, path)?.value(sort, member, &[]);
+                return Scope::open(self.terms, self.modules, path)?.value(sort, member, &[]);
             }
             (Some((path, _)), [arguments]) if path.starts_with("Rattle.") && sort == "Callee" => {
                 let parts = vec![self.called(name)?, self.read("Args", arguments)?];
@@ -118,11 +141,6 @@ impl Scope<'_> {
         };
         constant(node(sort, form, parts, |sort, part| self.read(sort, part))?)
     }
-}
-
-/// The name of a function of the kit, by the module of its symbol.
-fn kit_name(path: &str) -> Tree {
-    kit::name(path.trim_end_matches(".Symbol").split('.'))
 }
 
 const RECORD: &str = "record lifetimes outlives ty_params givens params locals body";

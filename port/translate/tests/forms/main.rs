@@ -5,6 +5,7 @@ mod generics;
 mod headers;
 mod json;
 mod layout;
+mod modules;
 mod refusals;
 mod same;
 mod statements;

@@ -2,11 +2,13 @@
 //! either is noticed.
 
 use crate::common::library;
+use crate::modules;
 use std::fs;
 use std::path::{Path, PathBuf};
 use translate::libraries::Libraries;
 use translate::same::difference::difference;
-use translate::same::{kit, library as held, terms};
+use translate::same::modules::Modules;
+use translate::same::{library as held, terms};
 
 const HELD: &str = r#"["lib::least",{"lifetimes":0,"outlives":[],"params":2,
 "generics":{"types":[],"outlives":[],"bounds":[],"method_of":null,"trait_lifetimes":0,"impls":[]},
@@ -178,6 +180,11 @@ impl Drop for Terms {
     }
 }
 
+/// The kit's libraries that a test wrote beside the terms.
+fn libraries_of_the_kit(terms: &Path) -> Modules {
+    Modules::new(std::iter::empty(), &terms.join("kit"))
+}
+
 /// Where the two forms differ, or why they cannot be compared.
 fn compared(text: &str, terms: &Path) -> Result<Option<String>, String> {
     let libraries = Libraries::new(&[library(&[text])], None)?;
@@ -188,7 +195,7 @@ fn compared(text: &str, terms: &Path) -> Result<Option<String>, String> {
     let (_, function) = libraries.function(name)?;
     Ok(difference(
         &held::code(&function)?,
-        &terms::code(terms, name)?,
+        &terms::code(terms, &libraries_of_the_kit(terms), name)?,
     ))
 }
 
@@ -333,7 +340,7 @@ const GENERIC: &str = r#"["lib::id",{"lifetimes":0,"outlives":[],"params":1,
 "impls":[{"name":"kit::I","lifetimes":0,"outlives":[],"types":[],"type_outlives":[],"bounds":[],"of":{},"methods":["kit::I::one","kit::I::two"]}]},
 "types":[],
 "locals":[{"ty":{"Param":0},"home":"ValueLocal"},{"ty":{"Array":[{"Param":0},{"Param":1}]},"home":"ValueLocal"}],
-"body":["Seq",{"Call":[{"Fn":["kit::deep::Of::of",{"types":[{"Const":3}],"dicts":[{"Given":0},{"Impl":["kit::I",[],[]]}]}]},[{"NumOf":[64,{"Param":1}]}],{"local":0,"steps":[]}]},
+"body":["Seq",{"Call":[{"Fn":["kit::deep::Of::of",{"types":[{"Const":3}],"dicts":[{"Given":0},{"Impl":["kit::I",[],[{"Impl":["kit::I",[],[]]}]]}]}]},[{"NumOf":[64,{"Param":1}]}],{"local":0,"steps":[]}]},
 "Seq",{"Call":[{"Method":[{"Given":0},1,{"types":[],"dicts":[]}]},[{"SizeOf":{"Param":0}}],{"local":0,"steps":[]}]},"Return"]}]"#;
 
 const GENERIC_MIR: &str = "use Rattle.kit.proofs.prelude.Of.of.Symbol
@@ -357,7 +364,10 @@ function = record {
       Syntax.dcons (Syntax.given 0) (Syntax.dcons (Syntax.impl
         (List.◌∷◌ \"kit::I::one\" (List.◌∷◌ \"kit::I::two\" List.[]))
         Syntax.tnil
-        Syntax.dnil) Syntax.dnil),
+        (Syntax.dcons (Syntax.impl
+          (List.◌∷◌ \"kit::I::one\" (List.◌∷◌ \"kit::I::two\" List.[]))
+          Syntax.tnil
+          Syntax.dnil) Syntax.dnil)) Syntax.dnil),
     )) (List.◌∷◌ (Syntax.num_of Syntax.w64 (Syntax.ty_param 1)) List.[]) (Syntax.place 0 List.[]))
     (Syntax.seq
     (Syntax.call
@@ -386,13 +396,13 @@ fn compared_generic(held: &str, mir: &str, test: &str) -> Result<Option<String>,
     fs::write(folder.join("Mir.antt"), mir).expect("a file is written");
     fs::write(folder.with_extension("antt"), GENERIC_CODE).expect("a file is written");
     let (_, function) = Libraries::new(&[library(&[held])], None)?.function("lib::id")?;
-    let is_own = |name: &str| name.starts_with("lib::");
-    let code = kit::renamed(held::code(&function)?, &is_own);
-    let term = terms::code(&terms.0, "lib::id")?;
-    Ok(difference(&held::unspelled(code), &held::unspelled(term)))
+    modules::kit(&terms.0.join("kit"), "{}");
+    let code = held::code(&function)?;
+    let term = terms::code(&terms.0, &libraries_of_the_kit(&terms.0), "lib::id")?;
+    Ok(difference(&held::spelled(code), &term))
 }
 
-/// Types, numbers and dictionaries, and the last two words of the kit's names.
+/// Types, numbers and dictionaries, and a function of the kit by another name.
 #[test]
 fn generic_functions() {
     let found = compared_generic(GENERIC, GENERIC_MIR, "generic");
@@ -402,7 +412,7 @@ fn generic_functions() {
         (r#"{"Const":3}"#, r#"{"Const":4}"#),
         (r#"{"Given":0},{"Impl""#, r#"{"Given":1},{"Impl""#),
         (r#""kit::I::one","#, r#""kit::I::once","#),
-        (r#"Of::of""#, r#"If::of""#),
+        (r#"deep::Of::of""#, r#"flat::Of::of""#),
         (r#"{"Given":0},1,"#, r#"{"Given":0},0,"#),
         (r#"{"SizeOf":{"Param":0}}"#, r#"{"SizeOf":{"Param":1}}"#),
         (r#"[64,{"Param":1}]"#, r#"[32,{"Param":1}]"#),
