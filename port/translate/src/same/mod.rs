@@ -1,4 +1,4 @@
-//! The MIR that the libraries hold, held against the MIR in the terms that are checked: two readers, one grammar, one comparison.
+//! The MIR that the libraries hold, held against the MIR in the terms that are checked, and against what these are made from: one grammar, one comparison.
 
 mod antt;
 pub mod difference;
