@@ -1,5 +1,5 @@
-//! Compares the MIR that the libraries hold, for each function that is translated, with the MIR that the checked terms are made from, and where it
-//! is given the terms of our own functions, with these.
+//! Compares the MIR that the libraries hold, for each function that is translated, with the modules of antt that they carry, and where it is given
+//! the terms of our own functions, with these.
 //!
 //! usage: same [--terms TERMS] INTERFACE LIBRARIES MIR..
 //!
@@ -28,12 +28,14 @@ fn main() -> ExitCode {
     };
     match all(table, terms, Path::new(kit), crates) {
         Ok((own, kit)) => {
-            let what = match terms {
+            let where_own = match terms {
                 Some(_) => "in the terms that are checked",
-                None => "that the checked terms are made from",
+                None => "in the modules that the crates carry",
             };
-            let all = own + kit;
-            println!("{all} functions, {kit} of them the kit's: the MIR that is translated is the MIR {what}");
+            println!("{own} functions: the MIR that is translated is the MIR {where_own}");
+            println!(
+                "{kit} of the kit: it is the MIR in the modules that the kit's libraries carry"
+            );
             ExitCode::SUCCESS
         }
         Err(wrong) => {
@@ -47,7 +49,7 @@ fn text_of(file: &String) -> Answer<String> {
     std::fs::read_to_string(file).map_err(|wrong| format!("{file}: {wrong}"))
 }
 
-/// The library that a mir.json lies in, and its name.
+/// The name of the library that a mir.json lies in, and the library.
 fn library(file: &String) -> Answer<(String, PathBuf)> {
     let library = Path::new(file).ancestors().nth(2);
     let name = library.and_then(|library| library.file_stem()?.to_str());
@@ -57,6 +59,15 @@ fn library(file: &String) -> Answer<(String, PathBuf)> {
     }
 }
 
+/// The names of the functions that are translated.
+fn translated(table: &String, libraries: &Libraries) -> Answer<BTreeSet<String>> {
+    let interfaces = interface::read(&text_of(table)?)?;
+    let first = interfaces.into_iter().flat_map(|one| one.functions);
+    let program = instances::program(libraries, &first.collect::<Vec<_>>())?;
+    let functions = program.functions.into_iter();
+    Ok(functions.map(|function| function.instance.name).collect())
+}
+
 /// How many of our functions and of the kit's were compared, if all are the same. Each that is not the same is said.
 fn all(
     table: &String,
@@ -64,19 +75,15 @@ fn all(
     kit: &Path,
     crates: &[String],
 ) -> Answer<(usize, usize)> {
-    let interfaces = interface::read(&text_of(table)?)?;
-    let first = interfaces.iter().flat_map(|one| one.functions.clone());
     let texts: Vec<String> = crates.iter().map(text_of).collect::<Answer<_>>()?;
     let libraries = Libraries::new(&texts, Some(kit.to_path_buf()))?;
-    let own: Vec<_> = crates.iter().map(library).collect::<Answer<_>>()?;
-    let modules = Modules::new(own.into_iter(), kit);
-    let program = instances::program(&libraries, &first.collect::<Vec<_>>())?;
-    let names = program.functions.iter();
-    let names: BTreeSet<&str> = names.map(|one| one.instance.name.as_str()).collect();
-    let (mut own, mut others, mut wrong) = (0, 0, 0);
-    for name in names {
+    let folders: Vec<_> = crates.iter().map(library).collect::<Answer<_>>()?;
+    let modules = Modules::new(folders.into_iter(), kit);
+    let names = translated(table, &libraries)?;
+    let (mut own, mut wrong) = (0, 0);
+    for name in &names {
         let ((is_own, ..), function) = libraries.function(name)?;
-        *(if is_own { &mut own } else { &mut others }) += 1;
+        own += usize::from(is_own);
         if let Err(why) = one(name, &function, &modules, terms.filter(|_| is_own)) {
             eprintln!("same: {name}: {why}");
             wrong += 1;
@@ -84,24 +91,25 @@ fn all(
     }
     match (own, wrong) {
         (0, _) => Err("no function was compared, for the table names none".to_string()),
-        (_, 0) => Ok((own, others)),
+        (_, 0) => Ok((own, names.len() - own)),
         _ => Err(format!(
             "{wrong} of {} functions are not shown to be the same",
-            own + others
+            names.len()
         )),
     }
 }
 
+/// Whether the function that a library holds is the one in its module, and in its term, where there are terms.
 fn one(name: &str, function: &Json, modules: &Modules, terms: Option<&Path>) -> Answer<()> {
     let held = code(function).map_err(|wrong| format!("in the library: {wrong}"))?;
     let held = spelled(held);
-    let made = modules.function(name).and_then(|made| code(&made));
-    let made = made.map_err(|wrong| format!("in what the term is made from: {wrong}"))?;
-    difference(&held, &made).map_or(Ok(()), Err)?;
+    let module = modules.function(name).and_then(|module| code(&module));
+    let module = module.map_err(|wrong| format!("in the module: {wrong}"))?;
+    difference(&held, "module", &module).map_or(Ok(()), Err)?;
     let Some(terms) = terms else {
         return Ok(());
     };
     let term = terms::code(terms, modules, name);
     let term = term.map_err(|wrong| format!("in the term: {wrong}"))?;
-    difference(&held, &term).map_or(Ok(()), Err)
+    difference(&held, "term", &term).map_or(Ok(()), Err)
 }

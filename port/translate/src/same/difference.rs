@@ -2,19 +2,19 @@
 
 use super::grammar::Tree;
 
-/// The way to the first difference, and what stands there in each; nothing if the trees are equal.
-pub fn difference<'a>(mut held: &'a Tree, mut term: &'a Tree) -> Option<String> {
-    if held == term {
+/// The way to the first difference of the library's tree from another, which is so called, and what stands there in each; nothing if they are equal.
+pub fn difference<'a>(mut held: &'a Tree, called: &str, mut other: &'a Tree) -> Option<String> {
+    if held == other {
         return None;
     }
     let mut steps = Vec::new();
-    while let Some((form, at, one, other)) = unequal_part(held, term) {
+    while let Some((form, at, one, another)) = unequal_part(held, other) {
         steps.push((form, at));
-        (held, term) = (one, other);
+        (held, other) = (one, another);
     }
-    let (way, ours, theirs) = (way(&steps), held.brief(), term.brief());
+    let (way, ours, theirs) = (way(&steps), held.brief(), other.brief());
     Some(format!(
-        "differs at {way}: in the library {ours}, in the term {theirs}"
+        "differs at {way}: in the library {ours}, in the {called} {theirs}"
     ))
 }
 

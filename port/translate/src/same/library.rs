@@ -106,15 +106,16 @@ fn add_held_types<'a>(tree: &'a Tree, names: &mut BTreeSet<&'a str>) {
 
 /// The declared types of a table, with their names.
 fn members(mut table: &Tree) -> impl Iterator<Item = (&str, &Tree)> {
-    std::iter::from_fn(move || {
+    let rows = std::iter::from_fn(move || {
         let [declared, rest] = table.parts("cons") else {
             return None;
         };
         table = rest;
-        match declared.parts("pair") {
-            [Tree::Text(name), ..] => Some((name.as_str(), declared)),
-            _ => None,
-        }
+        Some(declared)
+    });
+    rows.filter_map(|declared| match declared.parts("pair") {
+        [Tree::Text(name), ..] => Some((name.as_str(), declared)),
+        _ => None,
     })
 }
 

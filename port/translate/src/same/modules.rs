@@ -1,5 +1,5 @@
-//! The modules of antt that a built library carries, each as what it is made from: the checker makes a library's terms from them, those of the
-//! kit's functions too, of which `rt check --generated` writes none.
+//! The modules of antt that a built library carries, each as what it is made from (lang/antt/made.json, listed in toolchain/made.json). A check
+//! that reads the library anew makes its terms from them, those of the kit's functions too, of which `rt check --generated` writes none.
 
 use crate::json::{self, Json};
 use crate::Answer;
@@ -23,6 +23,12 @@ struct Carried {
     places: HashMap<String, (u64, u64)>,
 }
 
+/// What a module is made from, and other paths by which it imports what is named there.
+struct Made {
+    what: Json,
+    ways: Json,
+}
+
 /// How often a module may stand for another until a function is reached.
 const MOST_STEPS: usize = 100;
 
@@ -35,35 +41,43 @@ impl Modules {
         }
     }
 
-    /// The function that a term of its library is made from, with what it calls by the functions' names.
+    /// The function that a library carries, with what it calls by the functions' names.
     pub fn function(&self, name: &str) -> Answer<Json> {
         let (library, within) = name.split_once("::").ok_or("its name has no crate")?;
         let program = format!("proofs/{}/Code", within.replace("::", "/"));
-        match self.expected(library, &program)?.form() {
+        match self.expected(library, &program)?.what.form() {
             ("Code", [of]) if of.field("symbol") == Some(&Json::Text(name.to_string())) => {}
             _ => return Err(format!("{program} is another program")),
         }
         let made = self.expected(library, &format!("{program}/Mir"))?;
-        match made.form() {
+        match made.what.form() {
             ("Mir", [of]) => {
                 let [function, _] = of.fields(["function", "header"])?;
-                function.replaced(&|part| self.called(part))
+                function.replaced(&|part| self.called(part, &made.ways))
             }
-            _ => Err(format!("{program}/Mir is no function: {}", made.brief())),
+            _ => Err(format!(
+                "{program}/Mir is no function: {}",
+                made.what.brief()
+            )),
         }
     }
 
-    fn expected(&self, library: &str, module: &str) -> Answer<Json> {
+    fn expected(&self, library: &str, module: &str) -> Answer<Made> {
         let made = self.made(library, module)?;
         made.ok_or_else(|| format!("the library {library} carries no {module}"))
     }
 
-    /// A function that is called, by its name.
-    fn called(&self, part: &Json) -> Answer<Option<Json>> {
+    /// A function that is called, by its name. Where the module imports it by another path, that must be the same function's.
+    fn called(&self, part: &Json, ways: &Json) -> Answer<Option<Json>> {
         let ("Fn", [Json::Text(path), arguments]) = part.form() else {
             return Ok(None);
         };
-        let parts = vec![Json::Text(self.symbol(path)?), arguments.clone()];
+        let name = self.symbol(path)?;
+        let way = ways.field(path).map_or(Ok(path.as_str()), Json::text)?;
+        if self.symbol(way)? != name {
+            return Err(format!("{way} stands for another function than {name}"));
+        }
+        let parts = vec![Json::Text(name), arguments.clone()];
         let called = vec![("Fn".to_string(), Json::List(parts))];
         Ok(Some(Json::Object(called)))
     }
@@ -74,7 +88,7 @@ impl Modules {
         for _ in 0..MOST_STEPS {
             let (library, module) = place(&at)?;
             let made = self.made(&library, &module)?;
-            at = match made.as_ref().map(Json::form) {
+            at = match made.as_ref().map(|made| made.what.form()) {
                 Some(("Symbol", [of])) => {
                     let [symbol] = of.fields_and(["symbol"], &["is_method"])?;
                     return Ok(symbol.text()?.to_string());
@@ -99,7 +113,7 @@ impl Modules {
         };
         let within = module[above.len() + 1..].replace('/', ".");
         let (first, rest) = within.split_at(within.find('.').unwrap_or(within.len()));
-        let rows = match made.form() {
+        let rows = match made.what.form() {
             ("StandsFor", [of]) => of.field("rows").map_or(Ok(&[][..]), Json::list)?,
             _ => &[],
         };
@@ -115,7 +129,7 @@ impl Modules {
     }
 
     /// What a module is made from, if the library carries it.
-    fn made(&self, library: &str, module: &str) -> Answer<Option<Json>> {
+    fn made(&self, library: &str, module: &str) -> Answer<Option<Made>> {
         let carried = self.carried(library)?;
         let Some((start, length)) = carried.places.get(module) else {
             return Ok(None);
@@ -128,9 +142,7 @@ impl Modules {
                 file.take(*length).read_to_string(&mut text)
             })
             .map_err(|why| refused(why.to_string()))?;
-        // Behind it may stand a line of other paths to what it imports.
-        let first = text.lines().next().unwrap_or_default();
-        json::parse(first).map(Some).map_err(refused)
+        Made::read(&text).map(Some).map_err(refused)
     }
 
     fn carried(&self, library: &str) -> Answer<Rc<Carried>> {
@@ -147,6 +159,24 @@ impl Modules {
     }
 }
 
+impl Made {
+    /// A line, and behind it one of `{"ways":{PATH:PATH, ..}}`, if there are any.
+    fn read(text: &str) -> Answer<Made> {
+        let lines = text.lines().filter(|line| !line.is_empty());
+        let lines: Vec<Json> = lines.map(json::parse).collect::<Answer<_>>()?;
+        let mut lines = lines.into_iter();
+        let made = (lines.next(), lines.next(), lines.next());
+        let (Some(what), more, None) = made else {
+            return Err("a module is made from one line, or from two".to_string());
+        };
+        let ways = match more {
+            None => Json::Object(Vec::new()),
+            Some(more) => more.fields(["ways"])?[0].clone(),
+        };
+        Ok(Made { what, ways })
+    }
+}
+
 impl Carried {
     /// The list of a library's modules is `["NAME",START,LENGTH,CHECKSUM,..` in each line.
     fn read(library: &Path) -> Answer<Carried> {
@@ -158,7 +188,10 @@ impl Carried {
             let line = json::parse(line).map_err(refused)?;
             match line.list()? {
                 [Json::Text(name), start, length, ..] => {
-                    places.insert(name.clone(), (start.number()?, length.number()?));
+                    let place = (start.number()?, length.number()?);
+                    if places.insert(name.clone(), place).is_some() {
+                        return Err(refused(format!("two modules are named {name}")));
+                    }
                 }
                 _ => return Err(refused(format!("{} is no module", line.brief()))),
             }

@@ -39,7 +39,7 @@ fn without_empty_table(code: &Tree) -> Tree {
 /// The module that says what the names in a term are.
 struct Scope<'a> {
     terms: &'a Path,
-    /// The kit's libraries, of which the folder has no terms.
+    /// Where the kit's functions are found, of which the folder has no terms.
     modules: &'a Modules,
     module: Module,
 }

@@ -44,10 +44,9 @@ fn program(name: &str) -> String {
 }
 
 /// A library with two functions, `kit::deep::Of::of` and `kit::deep::one`; others see the first below `prelude` too.
-pub fn kit(folder: &Path, function: &str) {
+pub fn kit(folder: &Path, function: &str, behind: &str) {
     let made =
         format!(r#"{{"Mir":{{"function":{function},"header":{{"Reported":{{"bytes":"of"}}}}}}}}"#);
-    let paths = r#"{"ways":{"Rattle-kit.proofs.deep.one.Symbol":"Rattle-std.below.kit.proofs.deep.one.Symbol"}}"#;
     library(
         folder,
         "kit",
@@ -65,7 +64,7 @@ pub fn kit(folder: &Path, function: &str) {
             ),
             ("proofs/deep/Of/of/Symbol", symbol("kit::deep::Of::of")),
             ("proofs/deep/Of/of/Code", program("kit::deep::Of::of")),
-            ("proofs/deep/Of/of/Code/Mir", format!("{made}\n{paths}")),
+            ("proofs/deep/Of/of/Code/Mir", format!("{made}{behind}")),
             (
                 "facade/proofs/deep/one/Symbol",
                 stands_for("Rattle-kit-proofs.deep.one.Symbol", ""),
@@ -98,9 +97,13 @@ struct Folder(PathBuf);
 
 impl Folder {
     fn new(test: &str, function: &str) -> Folder {
+        Folder::with(test, function, "")
+    }
+
+    fn with(test: &str, function: &str, behind: &str) -> Folder {
         let folder = format!("modules-{test}-{}", std::process::id());
         let folder = Folder(std::env::temp_dir().join(folder));
-        kit(&folder.0, function);
+        kit(&folder.0, function, behind);
         folder
     }
 
@@ -134,7 +137,7 @@ fn compared(test: &str, held: &str, made: &str) -> Result<Option<String>, String
     let folder = Folder::new(test, made);
     let made = folder.modules().function("kit::deep::Of::of")?;
     let held = translate::json::parse(held)?;
-    Ok(difference(&code(&held)?, &code(&made)?))
+    Ok(difference(&code(&held)?, "module", &code(&made)?))
 }
 
 #[test]
@@ -165,6 +168,27 @@ fn a_function_of_the_kit() {
     let other = made().replacen("deep.one.Symbol", "deep.Of.of.Symbol", 1);
     let found = compared("callee", HELD, &other);
     assert!(matches!(found, Ok(Some(_))), "{found:?}");
+}
+
+/// Behind a function may stand other paths, by which its module imports what it calls.
+#[test]
+fn other_paths_to_what_is_called() {
+    let made = made().replace("Rattle-kit-proofs.deep.one", "Rattle-kit.proofs.deep.one");
+    let function = |test: &str, behind: &str| {
+        let folder = Folder::with(test, &made, behind);
+        folder.modules().function("kit::deep::Of::of")
+    };
+    let ways = r#"
+{"ways":{"Rattle-kit.proofs.deep.one.Symbol":"Rattle-std.below.kit.proofs.deep.one.Symbol"}}"#;
+    assert_eq!(function("ways", ways), function("no-ways", ""));
+    assert!(function("ways", ways).is_ok());
+    let why = |test: &str, behind: &str| function(test, behind).expect_err("it is refused");
+    assert_eq!(
+        why("ways-to-another", &ways.replace("deep.one.Symbol\"}", "deep.Of.of.Symbol\"}")),
+        "Rattle-std.below.kit.proofs.deep.Of.of.Symbol stands for another function than kit::deep::one"
+    );
+    assert!(why("roads", "\n{\"roads\":{}}").contains("expected the keys ways"));
+    assert!(why("three-lines", &format!("{ways}{ways}")).contains("from one line, or from two"));
 }
 
 #[test]
@@ -212,6 +236,13 @@ fn what_is_not_carried_is_an_error() {
     );
     assert!(why("kit::deep::Of::none").contains("Code/Mir is no function"));
     assert_eq!(why("one"), "its name has no crate");
+    let two = [
+        ("proofs/one", "{}".to_string()),
+        ("proofs/one", "{}".to_string()),
+    ];
+    library(&folder.0, "twice", &two);
+    let why = modules.symbol("Rattle-twice-proofs.one");
+    assert!(why.is_err_and(|why| why.contains("two modules are named proofs/one")));
 }
 
 /// Our own libraries lie elsewhere, and stand before the kit's.
@@ -264,7 +295,7 @@ fn types_behind_references() {
     let (p, q) = (("P", of_p.as_str()), ("Q", of_q.as_str()));
     let (r, s) = (("R", of_r.as_str()), ("S", byte));
     let held = spelled(tree(&[r, p, s, q]));
-    assert_eq!(difference(&held, &tree(&[p, q])), None);
+    assert_eq!(difference(&held, "module", &tree(&[p, q])), None);
     for other in [
         &[p][..],
         &[q, p],
@@ -273,11 +304,14 @@ fn types_behind_references() {
         &[p, ("Q", "")],
         &[],
     ] {
-        assert!(difference(&held, &tree(other)).is_some(), "{other:?}");
+        assert!(
+            difference(&held, "module", &tree(other)).is_some(),
+            "{other:?}"
+        );
     }
     // Whatever the order, what a type is made of goes with it.
     let of_q = named("S");
     let q = ("Q", of_q.as_str());
     let held = spelled(tree(&[s, q, r, p]));
-    assert_eq!(difference(&held, &tree(&[s, q, p])), None);
+    assert_eq!(difference(&held, "module", &tree(&[s, q, p])), None);
 }

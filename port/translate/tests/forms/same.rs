@@ -195,6 +195,7 @@ fn compared(text: &str, terms: &Path) -> Result<Option<String>, String> {
     let (_, function) = libraries.function(name)?;
     Ok(difference(
         &held::code(&function)?,
+        "term",
         &terms::code(terms, &libraries_of_the_kit(terms), name)?,
     ))
 }
@@ -396,10 +397,10 @@ fn compared_generic(held: &str, mir: &str, test: &str) -> Result<Option<String>,
     fs::write(folder.join("Mir.antt"), mir).expect("a file is written");
     fs::write(folder.with_extension("antt"), GENERIC_CODE).expect("a file is written");
     let (_, function) = Libraries::new(&[library(&[held])], None)?.function("lib::id")?;
-    modules::kit(&terms.0.join("kit"), "{}");
+    modules::kit(&terms.0.join("kit"), "{}", "");
     let code = held::code(&function)?;
     let term = terms::code(&terms.0, &libraries_of_the_kit(&terms.0), "lib::id")?;
-    Ok(difference(&held::spelled(code), &term))
+    Ok(difference(&held::spelled(code), "term", &term))
 }
 
 /// Types, numbers and dictionaries, and a function of the kit by another name.
