@@ -44,21 +44,16 @@ impl Modules {
     /// The function that a library carries, with what it calls by the functions' names.
     pub fn function(&self, name: &str) -> Answer<Json> {
         let (library, within) = name.split_once("::").ok_or("its name has no crate")?;
-        let program = format!("proofs/{}/Code", within.replace("::", "/"));
-        match self.expected(library, &program)?.what.form() {
-            ("Code", [of]) if of.field("symbol") == Some(&Json::Text(name.to_string())) => {}
-            _ => return Err(format!("{program} is another program")),
-        }
-        let made = self.expected(library, &format!("{program}/Mir"))?;
-        match made.what.form() {
-            ("Mir", [of]) => {
-                let [function, _] = of.fields(["function", "header"])?;
-                function.replaced(&|part| self.called(part, &made.ways))
-            }
-            _ => Err(format!(
-                "{program}/Mir is no function: {}",
-                made.what.brief()
-            )),
+        let module = format!("proofs/{}/Code", within.replace("::", "/"));
+        let program = self.expected(library, &module)?.what;
+        let made = self.expected(library, &format!("{module}/Mir"))?;
+        let function = match made.what.form() {
+            ("Mir", [of]) => of.fields(["function", "header"])?[0],
+            _ => return Err(format!("{module}/Mir is no function")),
+        };
+        match is_of(&program, name, function) {
+            true => function.replaced(&|part| self.called(part, &made.ways)),
+            false => Err(format!("{module} is another program")),
         }
     }
 
@@ -142,7 +137,10 @@ impl Modules {
                 file.take(*length).read_to_string(&mut text)
             })
             .map_err(|why| refused(why.to_string()))?;
-        Made::read(&text).map(Some).map_err(refused)
+        match text.len() as u64 == *length {
+            true => Made::read(&text).map(Some).map_err(refused),
+            false => Err(refused(format!("it ends within {module}"))),
+        }
     }
 
     fn carried(&self, library: &str) -> Answer<Rc<Carried>> {
@@ -173,7 +171,10 @@ impl Made {
             None => Json::Object(Vec::new()),
             Some(more) => more.fields(["ways"])?[0].clone(),
         };
-        Ok(Made { what, ways })
+        match ways {
+            Json::Object(_) => Ok(Made { what, ways }),
+            other => Err(format!("{} are no ways", other.brief())),
+        }
     }
 }
 
@@ -207,6 +208,10 @@ fn place(path: &str) -> Answer<(String, String)> {
     let unlike = || format!("{path} is no module of a library");
     let (first, within) = path.split_once('.').ok_or_else(unlike)?;
     let words: Vec<&str> = first.split('-').collect();
+    let is_in_name = |c: char| c.is_alphanumeric() || c == '_';
+    if !words.iter().all(|word| word.chars().all(is_in_name)) {
+        return Err(unlike());
+    }
     let (library, part) = match words.as_slice() {
         ["Rattle", library] => (library, "facade"),
         ["Rattle", library, part] => (library, *part),
@@ -214,6 +219,16 @@ fn place(path: &str) -> Answer<(String, String)> {
     };
     let module = format!("{part}/{}", within.replace('.', "/"));
     Ok((library.to_string(), module))
+}
+
+/// Whether a program is of the function by that name, with the types of its table if it has one.
+fn is_of(program: &Json, name: &str, function: &Json) -> bool {
+    let ("Code", [of]) = program.form() else {
+        return false;
+    };
+    let has_table = function.field("types") != Some(&Json::List(Vec::new()));
+    of.field("symbol") == Some(&Json::Text(name.to_string()))
+        && (of.field("by_name") == Some(&Json::Bool(true)) || !has_table)
 }
 
 /// The path of the module that another stands for.

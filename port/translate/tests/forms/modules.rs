@@ -40,7 +40,7 @@ fn symbol(name: &str) -> String {
 }
 
 fn program(name: &str) -> String {
-    format!(r#"{{"Code":{{"symbol":"{name}","callees":[],"also":[]}}}}"#)
+    format!(r#"{{"Code":{{"symbol":"{name}","callees":[],"also":[],"by_name":false}}}}"#)
 }
 
 /// A library with two functions, `kit::deep::Of::of` and `kit::deep::one`; others see the first below `prelude` too.
@@ -188,6 +188,7 @@ fn other_paths_to_what_is_called() {
         "Rattle-std.below.kit.proofs.deep.Of.of.Symbol stands for another function than kit::deep::one"
     );
     assert!(why("roads", "\n{\"roads\":{}}").contains("expected the keys ways"));
+    assert!(why("no-ways-at-all", "\n{\"ways\":[]}").contains("[] are no ways"));
     assert!(why("three-lines", &format!("{ways}{ways}")).contains("from one line, or from two"));
 }
 
@@ -224,6 +225,7 @@ fn what_is_not_carried_is_an_error() {
     assert!(why("Rattle-kit-proofs.deep.one").contains("is no function's"));
     assert!(why("Rattle-kit-proofs.round.Symbol").contains("stands for no function"));
     assert!(why("kit.proofs.deep.one").contains("is no module of a library"));
+    assert!(why("Rattle-/kit.proofs.deep.one").contains("is no module of a library"));
     assert!(why("Rattle-none.proofs.deep.one.Symbol").contains("none.rlib/toolchain/made.json"));
     let why = |name: &str| modules.function(name).expect_err("it is not carried");
     assert_eq!(
@@ -245,10 +247,36 @@ fn what_is_not_carried_is_an_error() {
     assert!(why.is_err_and(|why| why.contains("two modules are named proofs/one")));
 }
 
+/// A program says whether the types of its function's table are put in.
+#[test]
+fn a_table_that_is_not_put_in() {
+    let table = r#""types":[{"name":"kit::P"}],"locals""#;
+    let with_table = made().replacen(r#""types":[],"locals""#, table, 1);
+    assert_ne!(with_table, made());
+    let folder = Folder::new("table", &with_table);
+    let why = folder.modules().function("kit::deep::Of::of");
+    let why = why.expect_err("its program has no types");
+    assert_eq!(why, "proofs/deep/Of/of/Code is another program");
+    let list = folder.0.join("kit.rlib/lang/antt/made.json");
+    let text = fs::read_to_string(&list).expect("it is there");
+    fs::write(
+        &list,
+        text.replace("\"by_name\":false", "\"by_name\":true "),
+    )
+    .expect("written");
+    assert!(folder.modules().function("kit::deep::Of::of").is_ok());
+    fs::write(&list, &text[..text.find("\"Mir\"").expect("it is there")]).expect("written");
+    let why = folder.modules().function("kit::deep::Of::of");
+    assert!(why.is_err_and(|why| why.contains("it ends within proofs/deep/Of/of/Code/Mir")));
+}
+
 /// Our own libraries lie elsewhere, and stand before the kit's.
 #[test]
 fn a_library_of_ours() {
-    let (folder, other) = (Folder::new("own", &made()), Folder::new("other", "{}"));
+    let (folder, other) = (
+        Folder::new("own", &made()),
+        Folder::new("other", "{\"types\":[]}"),
+    );
     let own = [("kit".to_string(), folder.0.join("kit.rlib"))];
     let modules = Modules::new(own.into_iter(), &other.0);
     let function = modules.function("kit::deep::Of::of");
