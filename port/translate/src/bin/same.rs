@@ -32,10 +32,9 @@ fn main() -> ExitCode {
                 Some(_) => "in the terms that are checked",
                 None => "in the modules that the crates carry",
             };
-            println!("{own} functions: the MIR that is translated is the MIR {where_own}");
-            println!(
-                "{kit} of the kit: it is the MIR in the modules that the kit's libraries carry"
-            );
+            let said = "functions: the MIR that is translated is the MIR";
+            println!("{own} {said} {where_own}");
+            println!("{kit} of the kit's {said} in the modules that its libraries carry");
             ExitCode::SUCCESS
         }
         Err(wrong) => {

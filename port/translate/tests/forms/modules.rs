@@ -7,7 +7,7 @@ use translate::same::library::{code, spelled};
 use translate::same::modules::Modules;
 
 /// Writes a library `NAME.rlib` to the folder that carries these modules.
-pub fn library(folder: &Path, name: &str, modules: &[(&str, String)]) {
+pub fn write_library(folder: &Path, name: &str, modules: &[(&str, String)]) {
     let (mut places, mut all) = (String::new(), String::new());
     for (module, made) in modules {
         all += &format!("\"{module}\"\n");
@@ -43,11 +43,11 @@ fn program(name: &str) -> String {
     format!(r#"{{"Code":{{"symbol":"{name}","callees":[],"also":[],"by_name":false}}}}"#)
 }
 
-/// A library with two functions, `kit::deep::Of::of` and `kit::deep::one`; others see the first below `prelude` too.
-pub fn kit(folder: &Path, function: &str, behind: &str) {
+/// Writes a library with two functions, `kit::deep::Of::of` and `kit::deep::one`; others see the first below `prelude` too.
+pub fn write_kit(folder: &Path, function: &str, behind: &str) {
     let made =
         format!(r#"{{"Mir":{{"function":{function},"header":{{"Reported":{{"bytes":"of"}}}}}}}}"#);
-    library(
+    write_library(
         folder,
         "kit",
         &[
@@ -89,7 +89,7 @@ pub fn kit(folder: &Path, function: &str, behind: &str) {
     );
     let rows = r#","rows":[["kit","Rattle-kit"]]"#;
     let below = stands_for("Rattle-std.below", rows);
-    library(folder, "std", &[("facade/below", below)]);
+    write_library(folder, "std", &[("facade/below", below)]);
 }
 
 /// A folder of libraries, gone with the test.
@@ -103,7 +103,7 @@ impl Folder {
     fn with(test: &str, function: &str, behind: &str) -> Folder {
         let folder = format!("modules-{test}-{}", std::process::id());
         let folder = Folder(std::env::temp_dir().join(folder));
-        kit(&folder.0, function, behind);
+        write_kit(&folder.0, function, behind);
         folder
     }
 
@@ -242,7 +242,7 @@ fn what_is_not_carried_is_an_error() {
         ("proofs/one", "{}".to_string()),
         ("proofs/one", "{}".to_string()),
     ];
-    library(&folder.0, "twice", &two);
+    write_library(&folder.0, "twice", &two);
     let why = modules.symbol("Rattle-twice-proofs.one");
     assert!(why.is_err_and(|why| why.contains("two modules are named proofs/one")));
 }

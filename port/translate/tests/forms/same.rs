@@ -397,7 +397,7 @@ fn compared_generic(held: &str, mir: &str, test: &str) -> Result<Option<String>,
     fs::write(folder.join("Mir.antt"), mir).expect("a file is written");
     fs::write(folder.with_extension("antt"), GENERIC_CODE).expect("a file is written");
     let (_, function) = Libraries::new(&[library(&[held])], None)?.function("lib::id")?;
-    modules::kit(&terms.0.join("kit"), "{}", "");
+    modules::write_kit(&terms.0.join("kit"), "{}", "");
     let code = held::code(&function)?;
     let term = terms::code(&terms.0, &libraries_of_the_kit(&terms.0), "lib::id")?;
     Ok(difference(&held::spelled(code), "term", &term))
